@@ -1,0 +1,12 @@
+pub mod Limits
+pub mod Lists
+pub mod Term
+pub mod Table
+pub mod Step
+pub mod Pattern
+pub mod Report
+pub mod BookBytes
+pub mod Area
+pub mod Call
+pub mod Session
+pub mod Samples

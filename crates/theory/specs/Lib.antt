@@ -1,0 +1,9 @@
+pub mod Modest
+pub mod Run
+pub mod Values
+pub mod Binding
+pub mod Choice
+pub mod Soundness
+pub mod ReportOfValues
+pub mod Demand2
+pub mod Demand3

@@ -1,0 +1,17 @@
+-- What a report depends on. Statements only.
+use mathlib.Core.Path.{_≡_}
+use mathlib.Core.List.{List, map}
+use lib.Dec.{T}
+use Prim.Native.Nat.{ℕ}
+use Rattle.model.specs.Limits.{Limits}
+use Rattle.model.specs.Step.{State}
+use Rattle.model.specs.Pattern.{leftValue, rightValue}
+use Rattle.model.specs.Report.{report}
+use Rattle.model.specs.Area.{soundState}
+
+-- On sound states the report is a function of the book, the bindings and the value pairs of the lines alone: two states that
+-- agree on these, also of other limits, other capacities and other entries, have one report.
+abbrev pub ReportOfValues : Type 0
+ReportOfValues = (lim₁ lim₂ : Limits) (s₁ s₂ : State) → T (soundState lim₁ s₁) → T (soundState lim₂ s₂) → s₁ .book ≡ s₂ .book
+    → s₁ .bound ≡ s₂ .bound → map (leftValue s₁) (s₁ .lines) ≡ map (leftValue s₂) (s₂ .lines)
+    → map (rightValue s₁) (s₁ .lines) ≡ map (rightValue s₂) (s₂ .lines) → report s₁ ≡ report s₂

@@ -1,0 +1,1 @@
+// Theorems about the definitions of crate `model`: statements in specs/, proofs in proofs/.

@@ -22,7 +22,7 @@ use Rattle.theory.proofs.BookRound.{opened-sound}
 use Rattle.theory.proofs.Simulation.{Lives}
 
 -- a refusal is by a number that is not 0
-abbrev Positive : {A : Type 0} → Parsed A → Type 0
+abbrev pub Positive : {A : Type 0} → Parsed A → Type 0
 Positive (parsed a rest) = Unit {0}
 Positive (refused n) = T (not (eqb n 0))
 
@@ -73,7 +73,7 @@ terms-positive (suc k) before bytes =
     then-positive (parseNumber bytes) _ (number-positive bytes)
     (λ tag rest. then-positive (parseNode before tag rest) _ (node-positive before tag rest) (λ n rest′. terms-positive k (before ++ n ∷ []) rest′))
 
-book-positive : (lim : Limits) (bytes : List ℕ) → Positive (parseBook lim bytes)
+pub book-positive : (lim : Limits) (bytes : List ℕ) → Positive (parseBook lim bytes)
 unfolding parseBook
 book-positive lim bytes =
     then-positive (parseNumber bytes) _ (number-positive bytes)

@@ -1,0 +1,11 @@
+pub mod Arguments
+pub mod Book
+pub mod Counts
+pub mod Parsing
+pub mod Term
+pub mod TermRows
+pub mod Whole
+pub mod Over
+pub mod Numbers
+pub mod Terms
+pub mod Encoding

@@ -1,0 +1,95 @@
+-- Bytes laid over a list: nothing, more behind, the length, at the front, and a number that is written. Assumes nothing.
+use mathlib.Core.Path.{_≡_, refl, sym, ap, _∙_}
+use mathlib.Core.List.{List, [], _++_, append-assoc, append-nil}
+use Prim.Native.Nat.{ℕ, _+_, _-_, _≤_}
+use native.Mathlib.Nat.{add-zero, zero-add, add-assoc}
+use native.Mathlib.Omega.{arith}
+use lib.ListN.{length, take, drop, length-append, length-drop, take-append-drop, drop-of-length-le}
+use lib.Seq.{length-take-le, take-at, take-all, drop-drop}
+use Rattle.leb128.specs.Number.{maxGroups, maxNumber, write, writeWithin}
+use Rattle.leb128.proofs.Writing.{all-written}
+use Rattle.theory.proofs.Rows.{drop-behind}
+use Rattle.book.specs.Encoding.{over}
+
+module _ (out : List ℕ) where
+  -- no bytes change nothing
+  pub over-none : (at : ℕ) → over out at [] ≡ out
+  unfolding over
+  over-none at = rw add-zero (take-append-drop at out)
+
+  -- at the front nothing is kept before the bytes
+  pub over-front : (bytes : List ℕ) → over out 0 bytes ≡ bytes ++ drop (length bytes) out
+  unfolding over
+  over-front bytes = rw zero-add
+
+  module _ (at : ℕ) (xs : List ℕ) (room : at + length xs ≤ length out) where
+    -- where what follows the bytes begins
+    seam : length (take at out ++ xs) ≡ at + length xs
+    seam = rw (length-append, length-take-le at out (omega arith))
+
+    -- the length stays
+    pub length-over : length (over out at xs) ≡ length out
+    unfolding over
+    length-over = rw (← append-assoc, length-append, seam, length-drop) (omega arith)
+
+    -- bytes behind bytes are both at once
+    pub over-more : (ys : List ℕ) → over (over out at xs) (at + length xs) ys ≡ over out at (xs ++ ys)
+    unfolding over
+    over-more ys =
+        rw (
+          ← append-assoc (take at out) xs (drop (at + length xs) out),
+          take-at (take at out ++ xs) (drop (at + length xs) out) (at + length xs) seam,
+          drop-behind (take at out ++ xs) (drop (at + length xs) out) (at + length xs) (length ys) seam,
+          drop-drop,
+          length-append,
+          ← add-assoc,
+        )
+        (simp append-assoc)
+
+-- the bytes laid over `out` from `at` on give `end`, and `next` is the place behind them
+abbrev pub Laid : List ℕ → ℕ → List ℕ → List ℕ → ℕ → Type 0
+Laid out at bytes end next = (next ≡ at + length bytes) × (end ≡ over out at bytes)
+
+module _ (out : List ℕ) (at : ℕ) where
+  -- at first no bytes are laid
+  pub laid-none : Laid out at [] out at
+  laid-none = (omega arith, sym (over-none out at))
+
+  module _ (xs end : List ℕ) (next : ℕ) (room : at + length xs ≤ length out) (laid : Laid out at xs end next) where
+    -- the length stays
+    pub laid-length : length end ≡ length out
+    laid-length = ap length (laid .1) ∙ length-over out at xs room
+
+    -- bytes laid behind them
+    pub laid-more : (ys end′ : List ℕ) (next′ : ℕ) → Laid end next ys end′ next′ → Laid out at (xs ++ ys) end′ next′
+    laid-more ys end′ next′ h =
+        (rw length-append (omega arith), h .1 ∙ rw (laid .1, laid .0) (over-more out at xs room ys))
+
+-- bytes laid at the front
+pub laid-front : (out bytes end : List ℕ) (next : ℕ) → Laid out 0 bytes end next → (next ≡ length bytes) × (end ≡ bytes ++ drop next out)
+laid-front out bytes end next laid =
+    let count : next ≡ length bytes = omega arith in
+    (count, laid .1 ∙ rw count (over-front out bytes))
+
+-- a number written at the front of what lies from `at` on, said of the whole
+module _ (out : List ℕ) (at n : ℕ) (small : n ≤ maxNumber) (room : at + length (write maxGroups n) ≤ length out) where
+  -- the part that is lent
+  abbrev part : List ℕ
+  part = take (length out - at) (drop at out)
+
+  part-all : part ≡ drop at out
+  part-all = take-all (length out - at) (drop at out) (rw length-drop (omega arith))
+
+  -- it has room for the number
+  written : writeWithin maxGroups maxNumber (length part) n ≡ write maxGroups n
+  written = all-written (length part) n small (write maxGroups n) refl (rw (part-all, length-drop) (omega arith))
+
+  pub put-part : (r : ℕ) (last : List ℕ) → r ≡ length (writeWithin maxGroups maxNumber (length part) n)
+      → last ≡ writeWithin maxGroups maxNumber (length part) n ++ drop r part
+      → (at + r ≡ at + length (write maxGroups n)) × (take at out ++ (last ++ drop (length out - at) (drop at out)) ≡ over out at (write maxGroups n))
+  unfolding over
+  put-part r last e f =
+      let count : r ≡ length (write maxGroups n) = rw written at e in
+      let bytes : last ≡ write maxGroups n ++ drop r part = rw written at f in
+      let none : drop (length out - at) (drop at out) ≡ [] = drop-of-length-le (drop at out) {i = length out - at} (rw length-drop (omega arith)) in
+      (ap (λ (k : ℕ). at + k) count, rw (none, append-nil, bytes, part-all, drop-drop, count))

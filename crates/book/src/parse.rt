@@ -1,0 +1,143 @@
+// Decoding a book, part by part: a number, a term's arguments, a term, all terms. Each part starts at a position of the
+// bytes and gives the position after it, or a refusal (specs/Parts.antt).
+
+ghost use mathlib.Core.Path.{_≡_};
+ghost use mathlib.Core.List.{[]};
+ghost use Prim.Native.Nat.{suc, _≤_, _<_};
+ghost use lib.ListN.{getD, drop, set, replicate};
+ghost use Rattle.model.specs.BookBytes.{parseArguments, parseTerms};
+ghost use Rattle.book.specs.Rows.{rowsLength};
+ghost use Rattle.book.specs.Parts.{parseBelow, parseCounted, parseTerm, partOf, fitsEntry, StepOf, ArgumentsIn, TermIn, BookIn};
+
+// A number and the position after it, or a refusal.
+pub enum Part {
+    Value { value: u32, next: usize },
+    Refused(u32),
+}
+
+// The position after a part whose contents went into the rows, or a refusal.
+pub enum Step {
+    Next(usize),
+    Refused(u32),
+}
+
+// The number at position `at`: it is below `limit`, else the refusal `refusal`.
+pub fn read_below(bytes: &[u8], at: usize, limit: u32, refusal: u32) -> Part
+    ensures { λ r. ⌜ parseBelow limit refusal (drop at (now (bytes .entry))) ≡ partOf (now (bytes .entry)) r ⌝ }
+{
+    match leb128::read(bytes, at) {
+        leb128::Decoded::Number { value, next } => {
+            if value < limit {
+                Part::Value { value, next }
+            } else {
+                Part::Refused(refusal)
+            }
+        }
+        leb128::Decoded::Cut => Part::Refused(1),
+        leb128::Decoded::Invalid => Part::Refused(2),
+    }
+}
+
+// The `count` arguments of term `t`, into its row.
+fn read_arguments(bytes: &[u8], at: usize, t: u32, count: u32, rows: &mut [u32; 10240]) -> Step
+    requires { ⌜ (t < 1024) × (count ≤ 8) ⌝ }
+    ensures { λ r. ⌜ StepOf (now (bytes .entry)) (parseArguments t count (drop at (now (bytes .entry)))) (ArgumentsIn t count (now (rows .entry)) (now (rows .exit))) r ⌝ }
+{
+    let mut next = at;
+    let mut i = 0;
+    let first = 10 * (t as usize) + 2;
+    while i < count {
+        match read_below(bytes, next, t, 5) {
+            Part::Value { value, next: after } => {
+                rows[first + (i as usize)] = value;
+                next = after;
+            }
+            Part::Refused(n) => return Step::Refused(n),
+        }
+        i += 1;
+    }
+    Step::Next(next)
+}
+
+// Notes that symbol `s` has `count` arguments, and says whether no other count was noted before. (Where one was, decoding
+// ends, and the table is not used again.)
+fn note_count(counts: &mut [u8; 4096], s: usize, count: u8) -> bool
+    requires { ⌜ (s < 4096) × (count ≤ 8) ⌝ }
+    ensures fits { λ r. ⌜ r ≡ fitsEntry (getD (now (counts .entry)) s 0) count ⌝ }
+    ensures noted { λ r. ⌜ now (counts .exit) ≡ set (now (counts .entry)) s (suc count) ⌝ }
+{
+    let seen = counts[s];
+    let note = count + 1;
+    counts[s] = note;
+    if seen == 0 {
+        return true;
+    }
+    seen == note
+}
+
+// Term `t` of symbol `s`, from its count on, into its row. A count is at most 8.
+fn read_app(
+    bytes: &[u8],
+    at: usize,
+    t: u32,
+    s: u32,
+    counts: &mut [u8; 4096],
+    rows: &mut [u32; 10240],
+) -> Step
+    requires { ⌜ (t < 1024) × (s < 4096) ⌝ }
+    ensures { λ r. ⌜ StepOf (now (bytes .entry)) (parseCounted (now (counts .entry)) t s (drop at (now (bytes .entry)))) (TermIn t (now (counts .entry)) (now (counts .exit)) (now (rows .entry)) (now (rows .exit))) r ⌝ }
+{
+    match read_below(bytes, at, 9, 4) {
+        Part::Value { value, next } => {
+            if !note_count(counts, s as usize, value as u8) {
+                return Step::Refused(6);
+            }
+            let place = 10 * (t as usize);
+            rows[place] = s + 1;
+            rows[place + 1] = value;
+            read_arguments(bytes, next, t, value, rows)
+        }
+        Part::Refused(n) => Step::Refused(n),
+    }
+}
+
+// Term `t`, into its row, which stays as it is where the term is a variable. Any other has its symbol plus 1 first, and a
+// symbol is at most 4,095.
+fn read_term(
+    bytes: &[u8],
+    at: usize,
+    t: u32,
+    counts: &mut [u8; 4096],
+    rows: &mut [u32; 10240],
+) -> Step
+    requires { ⌜ t < 1024 ⌝ }
+    ensures { λ r. ⌜ StepOf (now (bytes .entry)) (parseTerm (now (counts .entry)) t (drop at (now (bytes .entry)))) (TermIn t (now (counts .entry)) (now (counts .exit)) (now (rows .entry)) (now (rows .exit))) r ⌝ }
+{
+    match read_below(bytes, at, 4097, 4) {
+        Part::Value { value, next } => {
+            if value == 0 {
+                return Step::Next(next);
+            }
+            read_app(bytes, next, t, value - 1, counts, rows)
+        }
+        Part::Refused(n) => Step::Refused(n),
+    }
+}
+
+// The `count` terms of a book, into rows that are all zero.
+pub fn read_terms(bytes: &[u8], at: usize, count: u32, rows: &mut [u32; 10240]) -> Step
+    requires { ⌜ (count ≤ 1024) × (now rows ≡ replicate rowsLength 0) ⌝ }
+    ensures { λ r. ⌜ StepOf (now (bytes .entry)) (parseTerms count [] (drop at (now (bytes .entry)))) (BookIn count (now (rows .exit))) r ⌝ }
+{
+    let mut counts = [0u8; 4096];
+    let mut next = at;
+    let mut t = 0;
+    while t < count {
+        match read_term(bytes, next, t, &mut counts, rows) {
+            Step::Next(after) => next = after,
+            Step::Refused(n) => return Step::Refused(n),
+        }
+        t += 1;
+    }
+    Step::Next(next)
+}

@@ -9,3 +9,4 @@ pub mod Over
 pub mod Numbers
 pub mod Terms
 pub mod Encoding
+pub mod RowsBook

@@ -1,82 +1,20 @@
--- A whole book: the outcomes of decoding it, and what its decoder answers. A refusal is never 0. Assumes nothing.
+-- A whole book: the outcomes of decoding it, and what its decoder answers. Assumes nothing.
 use mathlib.Core.Path.{_≡_, sym, subst, _∙_}
-use mathlib.Core.List.{List, [], _∷_, _++_}
-use mathlib.Core.Bool.{Bool, true, false}
-use Prim.Native.Nat.{ℕ, zero, suc, _<_, _≤_}
-use native.Mathlib.Omega.{arith}
+use mathlib.Core.List.{List, []}
+use mathlib.Core.Bool.{true, false}
+use Prim.Native.Nat.{ℕ, _<_, _≤_}
 use lib.ListN.{length, drop, drop-of-length-le}
 use lib.Seq.{drop-cons}
-use lib.Dec.{ltb, leb}
-use Rattle.leb128.specs.Number.{maxGroups, maxNumber, Read, number, cut, invalid, read}
-use Rattle.model.specs.Limits.{office, maxArity, maxSymbol}
-use Rattle.model.specs.Lists.{all, isEmpty}
+use Rattle.model.specs.Limits.{office}
+use Rattle.model.specs.Lists.{isEmpty}
 use Rattle.model.specs.Term.{Book}
-use Rattle.model.specs.BookBytes.{Parsed, parsed, refused, andThen, need, fromRead, parseNumber, arityFits, parseArguments, parseApp, parseNode, parseTerms, parseBook}
+use Rattle.model.specs.BookBytes.{parsed, refused, andThen, need, parseTerms, parseBook}
+use Rattle.theory.proofs.Opening.{book-positive}
 use Rattle.book.specs.declared.parse.Step.{Step}
 use Rattle.book.specs.declared.parse.Step.the-variants.{Next, Refused}
 use Rattle.book.specs.Rows.{bookRows, refusalOf, decodedBook}
 use Rattle.book.specs.Parts.{parseBelow, StepOf, BookIn}
 use Rattle.book.proofs.Parsing.{up-to-then}
-
--- ---- a refusal is not 0
-
--- an outcome whose refusal is not 0
-abbrev Telling : {A : Type 0} → Parsed A → Type 0
-Telling (parsed a rest) = Unit {0}
-Telling (refused k) = 0 < k
-
-need-telling : {A : Type 0} (b : Bool) (k : ℕ) (p : Parsed A) → 0 < k → Telling p → Telling (need b k p)
-unfolding need
-need-telling true k p h g = g
-need-telling false k p h g = h
-
-then-telling : {A B : Type 0} (p : Parsed A) (f : A → List ℕ → Parsed B) → Telling p → ((a : A) (rest : List ℕ) → Telling (f a rest))
-    → Telling (andThen p f)
-unfolding andThen
-then-telling (parsed a rest) f h g = g a rest
-then-telling (refused k) f h g = h
-
-number-telling : (bytes : List ℕ) → Telling (parseNumber bytes)
-unfolding parseNumber fromRead
-number-telling bytes = go (read maxGroups maxNumber bytes)
-  where
-    go : (r : Read) → Telling (fromRead r)
-    go (number n rest) = tt
-    go cut = omega arith
-    go invalid = omega arith
-
-arguments-telling : (t c : ℕ) (bytes : List ℕ) → Telling (parseArguments t c bytes)
-unfolding parseArguments
-arguments-telling t zero bytes = tt
-arguments-telling t (suc c) bytes =
-    then-telling (parseNumber bytes) _ (number-telling bytes) λ a rest.
-    need-telling (ltb a t) 5 _ (omega arith) (then-telling (parseArguments t c rest) _ (arguments-telling t c rest) λ args rest′. tt)
-
-node-telling : (before : Book) (tag : ℕ) (bytes : List ℕ) → Telling (parseNode before tag bytes)
-unfolding parseNode parseApp
-node-telling before zero bytes = tt
-node-telling before (suc s) bytes =
-    need-telling (leb s maxSymbol) 4 _ (omega arith)
-    (then-telling (parseNumber bytes) _ (number-telling bytes) λ c rest.
-    need-telling (leb c maxArity) 4 _ (omega arith)
-    (need-telling (all (arityFits s c) before) 6 _ (omega arith)
-    (then-telling (parseArguments (length before) c rest) _ (arguments-telling (length before) c rest) λ args rest′. tt)))
-
-terms-telling : (k : ℕ) (before : Book) (bytes : List ℕ) → Telling (parseTerms k before bytes)
-unfolding parseTerms
-terms-telling zero before bytes = tt
-terms-telling (suc k) before bytes =
-    then-telling (parseNumber bytes) _ (number-telling bytes) λ tag rest.
-    then-telling (parseNode before tag rest) _ (node-telling before tag rest) λ x rest′.
-    terms-telling k (before ++ x ∷ []) rest′
-
-book-telling : (bytes : List ℕ) → Telling (parseBook office bytes)
-unfolding parseBook
-book-telling bytes =
-    then-telling (parseNumber bytes) _ (number-telling bytes) λ n rest.
-    need-telling (leb n (office .maxTerms)) 4 _ (omega arith)
-    (then-telling (parseTerms n [] rest) _ (terms-telling n [] rest) λ b rest′.
-    need-telling (isEmpty rest′) 3 _ (omega arith) tt)
 
 -- ---- the outcomes
 
@@ -127,9 +65,7 @@ module _ (bytes rows : List ℕ) where
 
   refused-answer : (k : ℕ) → parseBook office bytes ≡ refused k → Decoded k 0
   unfolding refusalOf decodedBook
-  refused-answer k e =
-      let pos : 0 < k = rw e at (book-telling bytes) in
-      (rw e, (rw e, λ z. absurd (omega arith)))
+  refused-answer k e = (rw e, (rw e, λ z. absurd (rw (e, z) at (book-positive office bytes))))
 
   book-answer : (n : ℕ) (b : Book) → parseBook office bytes ≡ parsed b [] → BookIn n rows b → Decoded 0 n
   unfolding refusalOf decodedBook

@@ -1,0 +1,135 @@
+-- What opening and copying a book answer, case by case, from the outcome of the decoder. Assumes nothing.
+use mathlib.Core.Path.{_≡_, refl, sym, ap, _∙_}
+use mathlib.Core.List.{List, [], _∷_, _++_}
+use mathlib.Core.Bool.{Bool, true, false, cond, not, _&&_}
+use Prim.Native.Nat.{ℕ, _+_, _*_, _≤_, _<_}
+use native.Mathlib.Omega.{arith}
+use lib.ListN.{length, drop}
+use lib.Dec.{T, eqb, leb}
+use borrow.Author.Tests.{le-leb, lt-leb, leb-true, leb-false, eqb-false}
+use Rattle.model.specs.Limits.{office}
+use Rattle.model.specs.Lists.{concatMap}
+use Rattle.model.specs.Term.{Book}
+use Rattle.model.specs.Step.{opened}
+use Rattle.model.specs.BookBytes.{Parsed, parsed, refused, parseBook, bookBytes}
+use Rattle.model.specs.Area.{wordSize, toBytes, areaLength, areaBytes}
+use Rattle.model.specs.Call.{Outcome, refuse, accept, guard, over, emit, openParsed, callOpen}
+use Rattle.theory.proofs.BookRound.{parsed-formed}
+use Rattle.theory.proofs.Opening.{Positive, book-positive}
+use Rattle.book.specs.Rows.{bookRows, refusalOf, decodedBook}
+use Rattle.fit.specs.Opened.{openedWords}
+use Rattle.fit.specs.Offered.{neededLength, copyParsed, callCopy}
+use Rattle.fit.proofs.Opened.{opened-words}
+
+-- THE CAPACITY. Whether it lies in its range, by the outcome of two tests.
+abbrev pub inRange : ℕ → Bool
+inRange capacity = leb 1 capacity && leb capacity (office .maxCapacity)
+
+pub in-range : (capacity : ℕ) → 1 ≤ capacity → capacity ≤ 2048 → inRange capacity ≡ true
+in-range capacity h g = rw (le-leb 1 capacity h, le-leb capacity 2048 g)
+
+pub too-low : (capacity : ℕ) → capacity < 1 → inRange capacity ≡ false
+too-low capacity h = rw (lt-leb 1 capacity h)
+
+pub too-high : (capacity : ℕ) → 2048 < capacity → inRange capacity ≡ false
+too-high capacity h = high (leb 1 capacity)
+  where
+    high : (t : Bool) → t && leb capacity 2048 ≡ false
+    high true = lt-leb capacity 2048 h
+    high false = refl
+
+-- the needed length by the outcome
+pub length-of : (capacity : ℕ) → inRange capacity ≡ true → neededLength capacity ≡ areaLength office capacity
+unfolding neededLength
+length-of capacity h = rw h
+
+pub length-none : (capacity : ℕ) → inRange capacity ≡ false → neededLength capacity ≡ 0
+unfolding neededLength
+length-none capacity h = rw h
+
+-- a needed length of 0 is that of a capacity out of range
+pub none-out-of-range : (capacity : ℕ) → neededLength capacity ≡ 0 → inRange capacity ≡ false
+unfolding areaLength
+none-out-of-range capacity h = go (inRange capacity) refl
+  where
+    go : (t : Bool) → inRange capacity ≡ t → inRange capacity ≡ false
+    go true e = absurd (omega (arith, length-of capacity e))
+    go false e = e
+
+pub some-in-range : (capacity : ℕ) → (neededLength capacity ≡ 0 → ⊥) → inRange capacity ≡ true
+some-in-range capacity h = go (inRange capacity) refl
+  where
+    go : (t : Bool) → inRange capacity ≡ t → inRange capacity ≡ true
+    go true e = e
+    go false e = absurd (h (length-none capacity e))
+
+-- THE DECODER'S OUTCOME. Without a refusal it has a book.
+pub decoded : (bytes : List ℕ) → refusalOf (parseBook office bytes) ≡ 0
+    → (rest : List ℕ) × (parseBook office bytes ≡ parsed (decodedBook (parseBook office bytes)) rest)
+unfolding refusalOf decodedBook
+decoded bytes h = go (parseBook office bytes) (book-positive office bytes) h
+  where
+    go : (p : Parsed Book) → Positive p → refusalOf p ≡ 0 → (rest : List ℕ) × (p ≡ parsed (decodedBook p) rest)
+    go (parsed b rest) h g = (rest, refl)
+    go (refused n) h g = absurd (rw g at h)
+
+-- with a refusal it is that refusal
+pub not-decoded : (bytes : List ℕ) → (refusalOf (parseBook office bytes) ≡ 0 → ⊥) → parseBook office bytes ≡ refused (refusalOf (parseBook office bytes))
+unfolding refusalOf
+not-decoded bytes h = go (parseBook office bytes) h
+  where
+    go : (p : Parsed Book) → (refusalOf p ≡ 0 → ⊥) → p ≡ refused (refusalOf p)
+    go (parsed b rest) h = absurd (h refl)
+    go (refused n) h = refl
+
+-- OPENING.
+module _ (capacity : ℕ) (book area : List ℕ) where
+  pub open-four : inRange capacity ≡ false → callOpen office capacity book area ≡ refuse 0 4 area []
+  unfolding callOpen guard
+  open-four h = rw h
+
+  pub open-seven : inRange capacity ≡ true → length area < areaLength office capacity → callOpen office capacity book area ≡ refuse 0 7 area []
+  unfolding callOpen guard
+  open-seven h g = rw (h, lt-leb (areaLength office capacity) (length area) g)
+
+  open-parsed : inRange capacity ≡ true → areaLength office capacity ≤ length area
+      → callOpen office capacity book area ≡ openParsed office capacity area (parseBook office book)
+  unfolding callOpen guard
+  open-parsed h g = rw (h, le-leb (areaLength office capacity) (length area) g)
+
+  pub open-refused : inRange capacity ≡ true → areaLength office capacity ≤ length area → (refusalOf (parseBook office book) ≡ 0 → ⊥)
+      → callOpen office capacity book area ≡ refuse 0 (refusalOf (parseBook office book)) area []
+  unfolding openParsed
+  open-refused h g n = open-parsed h g ∙ ap (openParsed office capacity area) (not-decoded book n)
+
+  pub open-accepted : inRange capacity ≡ true → areaLength office capacity ≤ length area → refusalOf (parseBook office book) ≡ 0
+      → callOpen office capacity book area
+      ≡ accept [] (over (concatMap (toBytes wordSize) (openedWords capacity (length (decodedBook (parseBook office book))) (bookRows (decodedBook (parseBook office book))))) area) []
+  unfolding openParsed areaBytes bookRows
+  open-accepted h g z =
+      let d = decoded book z in
+      let b = decodedBook (parseBook office book) in
+      open-parsed h g ∙ ap (openParsed office capacity area) (d .1)
+      ∙ ap (λ words. accept [] (over (concatMap (toBytes wordSize) words) area) [])
+      (opened-words b capacity (parsed-formed office book b (d .0) (d .1) .1))
+
+-- COPYING.
+module _ (book out : List ℕ) where
+  pub copy-refused : (refusalOf (parseBook office book) ≡ 0 → ⊥) → callCopy book out ≡ refuse 1 (refusalOf (parseBook office book)) [] out
+  unfolding callCopy copyParsed
+  copy-refused n = ap (copyParsed out) (not-decoded book n)
+
+  copy-parsed : refusalOf (parseBook office book) ≡ 0 → callCopy book out ≡ emit (bookBytes (decodedBook (parseBook office book))) [] out
+  unfolding callCopy copyParsed
+  copy-parsed z = ap (copyParsed out) (decoded book z .1)
+
+  pub copy-thirteen : refusalOf (parseBook office book) ≡ 0 → length out < length (bookBytes (decodedBook (parseBook office book)))
+      → callCopy book out ≡ refuse 1 13 [] out
+  unfolding emit guard
+  copy-thirteen z h = copy-parsed z ∙ rw (lt-leb (length (bookBytes (decodedBook (parseBook office book)))) (length out) h)
+
+  pub copy-accepted : refusalOf (parseBook office book) ≡ 0 → length (bookBytes (decodedBook (parseBook office book))) ≤ length out
+      → callCopy book out
+      ≡ accept (length (bookBytes (decodedBook (parseBook office book))) ∷ []) [] (over (bookBytes (decodedBook (parseBook office book))) out)
+  unfolding emit guard
+  copy-accepted z h = copy-parsed z ∙ rw (le-leb (length (bookBytes (decodedBook (parseBook office book)))) (length out) h)

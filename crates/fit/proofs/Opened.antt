@@ -1,0 +1,131 @@
+-- Laying the header and the term rows into an area and clearing the rest gives the bytes of a state just opened. Assumes
+-- nothing.
+use mathlib.Core.Path.{_≡_, refl, sym, ap, ap₂, _∙_}
+use mathlib.Core.List.{List, [], _∷_, _++_, map, append-assoc}
+use mathlib.Core.Option.{none}
+use Prim.Native.Nat.{ℕ, zero, suc, _+_, _*_, _-_, _≤_, zero-le}
+use native.Mathlib.Omega.{arith}
+use lib.ListN.{length, take, drop, replicate, length-append, length-drop, length-replicate, replicate-append-replicate}
+use lib.Seq.{take-at, drop-append-add, drop-drop}
+use native.Mathlib.Nat.{add-sub-of-le}
+use Rattle.model.specs.Limits.{office}
+use Rattle.model.specs.Lists.{concatMap, padded}
+use Rattle.model.specs.Term.{Node, Book}
+use Rattle.model.specs.Step.{opened}
+use Rattle.model.specs.Area.{wordSize, termWords, entryRowWords, toBytes, nodeWords, bindingWord, areaWords, areaBytes, areaLength}
+use Rattle.model.specs.Call.{over}
+use Rattle.theory.proofs.Lists.{concatMap-append}
+use Rattle.theory.proofs.Words.{length-words}
+use Rattle.area.specs.Words.{laid, cleared}
+use Rattle.fit.specs.Opened.{openedWords}
+
+-- words of zero are bytes of zero
+zero-bytes : (n : ℕ) → concatMap (toBytes wordSize) (replicate n 0) ≡ replicate (wordSize * n) 0
+unfolding concatMap toBytes
+zero-bytes zero = refl
+zero-bytes (suc n) =
+    let e : wordSize * suc n ≡ suc (suc (suc (suc (wordSize * n)))) = omega arith in
+    rw e (ap (λ xs. 0 ∷ 0 ∷ 0 ∷ 0 ∷ xs) (zero-bytes n))
+
+-- zeros behind zeros
+padded-zeros : (n k : ℕ) → k ≤ n → padded n (replicate k 0) ≡ replicate n 0
+unfolding padded
+padded-zeros n k h =
+    rw (length-replicate, replicate-append-replicate) (ap (λ m. replicate m 0) (add-sub-of-le h))
+
+-- nothing is bound
+no-bindings : (b : Book) → map bindingWord (map (λ (n : Node). none) b) ≡ replicate (length b) 0
+unfolding bindingWord
+no-bindings [] = refl
+no-bindings (n ∷ b) = ap (λ xs. 0 ∷ xs) (no-bindings b)
+
+-- the bindings, the lines and the entries of a state just opened
+opened-zeros : (b : Book) (c : ℕ) → length b ≤ office .maxTerms
+    → padded (office .maxTerms) (map bindingWord (map (λ (n : Node). none) b)) ++ (padded (office .maxLines) [] ++ padded (entryRowWords * c) [])
+    ≡ replicate (office .maxTerms + office .maxLines + entryRowWords * c) 0
+opened-zeros b c h =
+    let e : office .maxTerms + (office .maxLines + entryRowWords * c) ≡ office .maxTerms + office .maxLines + entryRowWords * c = omega arith in
+    rw (
+      no-bindings b,
+      padded-zeros (office .maxTerms) (length b) h,
+      padded-zeros (office .maxLines) 0 zero-le,
+      padded-zeros (entryRowWords * c) 0 zero-le,
+      replicate-append-replicate (office .maxLines),
+      replicate-append-replicate (office .maxTerms),
+    )
+    (ap (λ m. replicate m 0) e)
+
+-- the words of a state just opened
+pub opened-words : (b : Book) (c : ℕ) → length b ≤ office .maxTerms
+    → areaWords office (opened b c) ≡ openedWords c (length b) (padded (termWords * office .maxTerms) (concatMap nodeWords b))
+unfolding areaWords opened openedWords concatMap
+opened-words b c h =
+    ap (λ xs. c ∷ length b ∷ 0 ∷ 0 ∷ (padded (termWords * office .maxTerms) (concatMap nodeWords b) ++ xs)) (opened-zeros b c h)
+
+-- what a write behind a first part leaves
+drop-behind : (p rest : List ℕ) (n m k : ℕ) → length p ≡ n → k ≡ n + m → drop k (p ++ rest) ≡ drop m rest
+drop-behind p rest n m k h e = ap (λ i. drop i (p ++ rest)) (e ∙ ap (λ i. i + m) (sym h)) ∙ drop-append-add p rest m
+
+laid-behind : (p rest : List ℕ) (start : ℕ) (words : List ℕ) → length p ≡ wordSize * start
+    → laid (p ++ rest) start words ≡ (p ++ concatMap (toBytes wordSize) words) ++ drop (wordSize * length words) rest
+unfolding laid
+laid-behind p rest start words h =
+    rw (take-at p rest (wordSize * start) h, drop-behind p rest (wordSize * start) (wordSize * length words) (wordSize * (start + length words)) h (omega arith), append-assoc)
+
+cleared-behind : (p rest : List ℕ) (a e : ℕ) → length p ≡ a → a ≤ e → cleared (p ++ rest) a e ≡ (p ++ replicate (e - a) 0) ++ drop (e - a) rest
+unfolding cleared
+cleared-behind p rest a e h g =
+    rw (take-at p rest a h, drop-behind p rest a (e - a) e h (omega arith), append-assoc)
+
+module _ (c terms : ℕ) (rows : List ℕ) where
+  -- the header's bytes, with the rows' bytes behind them, and zeros behind these
+  header : List ℕ
+  header = c ∷ terms ∷ 0 ∷ 0 ∷ []
+
+  front : List ℕ
+  front = concatMap (toBytes wordSize) header ++ concatMap (toBytes wordSize) rows
+
+  zeros : ℕ
+  zeros = wordSize * (office .maxTerms + office .maxLines + entryRowWords * c)
+
+  opened-bytes : concatMap (toBytes wordSize) (openedWords c terms rows) ≡ front ++ replicate zeros 0
+  unfolding openedWords header front zeros
+  opened-bytes =
+      let n = office .maxTerms + office .maxLines + entryRowWords * c in
+      concatMap-append (toBytes wordSize) (c ∷ terms ∷ 0 ∷ 0 ∷ []) (rows ++ replicate n 0)
+      ∙ rw (concatMap-append (toBytes wordSize) rows (replicate n 0), zero-bytes n, append-assoc)
+
+  length-front : length rows ≡ termWords * office .maxTerms → length front ≡ 40976
+  unfolding header front
+  length-front h =
+      rw (
+        length-append (concatMap (toBytes wordSize) (c ∷ terms ∷ 0 ∷ 0 ∷ [])) (concatMap (toBytes wordSize) rows),
+        length-words wordSize (c ∷ terms ∷ 0 ∷ 0 ∷ []),
+        length-words wordSize rows,
+        h,
+      )
+
+  -- what lies behind the needed length
+  behind : (area : List ℕ) → length rows ≡ termWords * office .maxTerms
+      → drop zeros (drop (wordSize * length rows) (drop 16 area)) ≡ drop (length (front ++ replicate zeros 0)) area
+  behind area h =
+      let e : 16 + (wordSize * length rows + zeros) ≡ length (front ++ replicate zeros 0) =
+      omega (arith, length-append front (replicate zeros 0), length-front h, length-replicate {A = ℕ} zeros 0) in
+      rw (drop-drop zeros (wordSize * length rows), drop-drop (wordSize * length rows + zeros) 16) (ap (λ n. drop n area) e)
+
+  -- Three writes one after the other: the header, the rows, and zeros up to the needed length.
+  pub laid-opened : (area : List ℕ) → length rows ≡ termWords * office .maxTerms
+      → cleared (laid (laid area 0 (c ∷ terms ∷ 0 ∷ 0 ∷ [])) 4 rows) 40976 (areaLength office c)
+      ≡ over (concatMap (toBytes wordSize) (openedWords c terms rows)) area
+  unfolding areaLength over header front zeros
+  laid-opened area h =
+      let rest = drop (wordSize * length rows) (drop 16 area) in
+      let e : areaLength office c - 40976 ≡ zeros = omega arith in
+      rw (
+        laid-behind [] area 0 (c ∷ terms ∷ 0 ∷ 0 ∷ []) refl,
+        laid-behind (concatMap (toBytes wordSize) header) (drop 16 area) 4 rows (length-words wordSize header),
+        cleared-behind front rest 40976 (areaLength office c) (length-front h) (omega arith),
+        e,
+        opened-bytes,
+        behind area h,
+      )

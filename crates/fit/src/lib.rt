@@ -1,0 +1,92 @@
+// The calls that are offered to others. None has a `requires`: what is wrong is refused by its number (docs/C-API.md).
+
+ghost use mathlib.Core.Path.{_≡_};
+ghost use mathlib.Core.List.{List, [], _∷_, _++_};
+ghost use Prim.Native.Nat.{ℕ, _+_, _*_, _≤_};
+ghost use lib.ListN.{length, getD, replicate};
+ghost use Rattle.model.specs.Limits.{office};
+ghost use Rattle.model.specs.Lists.{concatMap};
+ghost use Rattle.model.specs.Area.{wordSize, toBytes, areaLength};
+ghost use Rattle.model.specs.Call.{over, callOpen};
+ghost use Rattle.fit.specs.Opened.{openedWords};
+ghost use Rattle.fit.specs.Offered.{neededLength, callCopy};
+
+// The length in bytes that an area of this capacity needs, 0 for a capacity out of range.
+#[no_mangle]
+pub extern "C" fn fit_area_length(capacity: u32) -> usize
+    ensures { λ r. ⌜ r ≡ neededLength capacity ⌝ }
+{
+    if capacity < 1 {
+        return 0;
+    }
+    if 2048 < capacity {
+        return 0;
+    }
+    area::needed_length(capacity as usize)
+}
+
+// Opens a book in an area: 4 for the capacity, 7 for an area that is too short, then the book's refusals. Where it is
+// accepted the whole needed length is written, and where it is refused no byte is.
+#[no_mangle]
+pub extern "C" fn fit_open(capacity: u32, book: &[u8], area: &mut [u8]) -> u32
+    ensures refusal { λ r. ⌜ r ≡ callOpen office capacity (now (book .entry)) (now (area .entry)) .refusal ⌝ }
+    ensures area { λ r. ⌜ now (area .exit) ≡ callOpen office capacity (now (book .entry)) (now (area .entry)) .area ⌝ }
+{
+    let needed = fit_area_length(capacity);
+    if needed == 0 {
+        return 4;
+    }
+    if area.len() < needed {
+        return 7;
+    }
+    let mut rows = [0u32; 10240];
+    let decoded = book::decode(book, &mut rows);
+    let refusal = decoded.refusal;
+    if refusal != 0 {
+        return refusal;
+    }
+    let terms = decoded.terms;
+    write_opened(area, capacity, terms, needed, &rows);
+    0
+}
+
+// Writes an area just opened: the header, the term rows, and zeros up to the needed length.
+fn write_opened(area: &mut [u8], capacity: u32, terms: u32, needed: usize, rows: &[u32; 10240])
+    requires { ⌜ (needed ≡ areaLength office capacity) × (needed ≤ length (now area)) ⌝ }
+    ensures { λ _. ⌜ now (area .exit) ≡ over (concatMap (toBytes wordSize) (openedWords capacity terms (now (rows .entry)))) (now (area .entry)) ⌝ }
+{
+    let header = area::Header {
+        capacity,
+        terms,
+        entries: 0,
+        lines: 0,
+    };
+    area::store_header(area, header);
+    area::store(area, 4, rows);
+    area::clear(area, 40976, needed);
+}
+
+// Reads a book and writes it back, with no area: the book's refusals, then 13 where `out` is too short. `written` is the
+// number of bytes written, 0 on a refusal.
+#[no_mangle]
+pub extern "C" fn fit_copy_book(book: &[u8], out: &mut [u8], written: &mut u32) -> u32
+    ensures refusal { λ r. ⌜ r ≡ callCopy (now (book .entry)) (now (out .entry)) .refusal ⌝ }
+    ensures written { λ r. ⌜ now (written .exit) ∷ [] ≡ callCopy (now (book .entry)) (now (out .entry)) .numbers ⌝ }
+    ensures output { λ r. ⌜ now (out .exit) ≡ callCopy (now (book .entry)) (now (out .entry)) .output ⌝ }
+{
+    *written = 0;
+    let mut rows = [0u32; 10240];
+    let decoded = book::decode(book, &mut rows);
+    let refusal = decoded.refusal;
+    if refusal != 0 {
+        return refusal;
+    }
+    let terms = decoded.terms as usize;
+    let length = book::encoded_length(&rows, terms);
+    if out.len() < length {
+        return 13;
+    }
+    let count = book::encode(&rows, terms, out);
+    *written = count as u32;
+    0
+}

@@ -1,0 +1,26 @@
+/* The fit table's C interface. docs/C-API.md says what each function promises; docs/SPEC.md what it means. */
+#ifndef FIT_H
+#define FIT_H
+
+#include <stddef.h>
+#include <stdint.h>
+
+#ifdef __cplusplus
+extern "C" {
+#endif
+
+/* The length in bytes that an area of this capacity needs; 0 for a capacity that is not 1 to 2048. */
+size_t fit_area_length(uint32_t capacity);
+
+/* Opens a book in an area. Gives 0, or refusal 4, 7, 1, 2, 3, 5 or 6; a refusal changes no byte. */
+uint32_t fit_open(uint32_t capacity, const uint8_t *book, size_t book_length, uint8_t *area, size_t area_length);
+
+/* Reads a book and writes it back to out, with no area. Gives 0 and the number of bytes in *written, or refusal 1 to 6 or
+   13 and 0 in *written; a refusal changes no byte of out. */
+uint32_t fit_copy_book(const uint8_t *book, size_t book_length, uint8_t *out, size_t out_length, uint32_t *written);
+
+#ifdef __cplusplus
+}
+#endif
+
+#endif

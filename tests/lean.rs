@@ -1,0 +1,140 @@
+//! Opening and copying a book in plain Rust as the proved code does it, on rows of words and with no allocation: what the
+//! proved code is measured against.
+
+use crate::reference::area_length;
+
+const ROWS: usize = 10 * 1024;
+
+fn number(bytes: &[u8], at: &mut usize) -> Result<u32, u32> {
+    let mut value = 0;
+    for group in 0..3 {
+        let byte = *bytes.get(*at).ok_or(1u32)?;
+        *at += 1;
+        value |= u32::from(byte & 0x7F) << (7 * group);
+        if byte < 0x80 {
+            return if (group > 0 && byte == 0) || value > 65_535 { Err(2) } else { Ok(value) };
+        }
+    }
+    Err(2)
+}
+
+/// Whether no earlier row has this first number with another arity.
+fn fits_earlier(rows: &[u32], first: u32, arity: u32) -> bool {
+    rows.chunks_exact(10).all(|row| row[0] != first || row[1] == arity)
+}
+
+/// Decodes into rows. The rule that a symbol has one arity is tested by a table of symbols or by a look back.
+fn decode<const LOOK_BACK: bool>(bytes: &[u8], rows: &mut [u32; ROWS]) -> Result<usize, u32> {
+    let mut at = 0;
+    let mut arities = [0u8; 4096];
+    let count = number(bytes, &mut at)? as usize;
+    if count > 1024 {
+        return Err(4);
+    }
+    for t in 0..count {
+        let first = number(bytes, &mut at)?;
+        if first == 0 {
+            continue;
+        }
+        if first > 4096 {
+            return Err(4);
+        }
+        let arity = number(bytes, &mut at)?;
+        if arity > 8 {
+            return Err(4);
+        }
+        if LOOK_BACK {
+            if !fits_earlier(&rows[..10 * t], first, arity) {
+                return Err(6);
+            }
+        } else {
+            let seen = &mut arities[first as usize - 1];
+            if *seen != 0 && u32::from(*seen) != arity + 1 {
+                return Err(6);
+            }
+            *seen = arity as u8 + 1;
+        }
+        let row = &mut rows[10 * t..10 * t + 10];
+        row[0] = first;
+        row[1] = arity;
+        for place in &mut row[2..2 + arity as usize] {
+            let argument = number(bytes, &mut at)?;
+            if argument as usize >= t {
+                return Err(5);
+            }
+            *place = argument;
+        }
+    }
+    if at < bytes.len() {
+        return Err(3);
+    }
+    Ok(count)
+}
+
+fn store(area: &mut [u8], words: &[u32]) {
+    for (place, word) in area.chunks_exact_mut(4).zip(words) {
+        place.copy_from_slice(&word.to_le_bytes());
+    }
+}
+
+pub fn open<const LOOK_BACK: bool>(capacity: u32, book: &[u8], area: &mut [u8]) -> u32 {
+    let needed = area_length(capacity);
+    if needed == 0 {
+        return 4;
+    }
+    if area.len() < needed {
+        return 7;
+    }
+    let mut rows = [0; ROWS];
+    let count = match decode::<LOOK_BACK>(book, &mut rows) {
+        Ok(count) => count,
+        Err(refusal) => return refusal,
+    };
+    let header = [capacity, count as u32, 0, 0];
+    store(&mut area[..16], &header);
+    store(&mut area[16..4 * (4 + ROWS)], &rows);
+    area[4 * (4 + ROWS)..needed].fill(0);
+    0
+}
+
+fn put(out: &mut [u8], at: &mut usize, mut n: u32) {
+    while n > 0x7F {
+        out[*at] = (n & 0x7F) as u8 | 0x80;
+        *at += 1;
+        n >>= 7;
+    }
+    out[*at] = n as u8;
+    *at += 1;
+}
+
+fn size(n: u32) -> usize {
+    1 + usize::from(n > 0x7F) + usize::from(n > 0x3FFF)
+}
+
+/// The numbers of a row.
+fn numbers(row: &[u32]) -> &[u32] {
+    if row[0] == 0 {
+        &row[..1]
+    } else {
+        &row[..2 + row[1] as usize]
+    }
+}
+
+pub fn copy(book: &[u8], out: &mut [u8]) -> u32 {
+    let mut rows = [0; ROWS];
+    let count = match decode::<false>(book, &mut rows) {
+        Ok(count) => count,
+        Err(refusal) => return refusal,
+    };
+    let used = || rows[..10 * count].chunks_exact(10).flat_map(numbers);
+    let length = size(count as u32) + used().map(|&n| size(n)).sum::<usize>();
+    if out.len() < length {
+        return 13;
+    }
+    let mut at = 0;
+    put(out, &mut at, count as u32);
+    for &n in used() {
+        put(out, &mut at, n);
+    }
+    0
+}

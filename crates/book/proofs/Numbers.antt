@@ -33,7 +33,8 @@ numbers-first n ns = refl
 pub length-write : (n : ℕ) → length (write maxGroups n) ≤ maxGroups
 length-write n = writes-bytes maxGroups n .1
 
-length-numbers : (ns : List ℕ) → length (numberBytes ns) ≤ maxGroups * length ns
+-- a number takes at most three bytes
+pub length-numbers : (ns : List ℕ) → length (numberBytes ns) ≤ maxGroups * length ns
 unfolding numberBytes concatMap
 length-numbers [] = zero-le
 length-numbers (n ∷ ns) = rw length-append (omega (arith, length-write n, length-numbers ns))

@@ -6,23 +6,22 @@ use native.Mathlib.Nat.{add-zero, zero-add}
 use native.Mathlib.Omega.{arith}
 use borrow.Author.Tests.{ne-eqb}
 use lib.ListN.{length, getD, take, drop, replicate, length-append, take-append-drop}
-use lib.Seq.{take-all, take-at, getD-drop, drop-drop}
+use lib.Seq.{take-at, getD-drop, drop-drop}
 use lib.Dec.{T, leb, le→leb}
 use Rattle.leb128.specs.Number.{maxGroups, maxNumber}
 use Rattle.model.specs.Limits.{office, maxArity, maxSymbol}
 use Rattle.model.specs.Lists.{all, from, concatMap, padded}
 use Rattle.model.specs.Term.{Node, var, app, symbol, arguments, Book, Bindings}
 use Rattle.model.specs.Area.{termWords, nodeWords}
-use Rattle.model.specs.Report.{numberBytes}
 use Rattle.model.specs.BookBytes.{nodeNumbers, bookBytes}
 use Rattle.theory.proofs.Facts.{Formed}
 use Rattle.theory.proofs.Lists.{all-intro, length-from, getD-from}
 use Rattle.theory.proofs.Conjunctions.{and₃}
-use Rattle.theory.proofs.Rows.{Below, Wide, map-from, row, below-nil, below-cons, below-padded, below-rows, below-all}
+use Rattle.theory.proofs.Rows.{Below, Wide, map-from, row, below-padded, below-rows}
 use Rattle.theory.proofs.AreaRows.{width-node}
+use Rattle.theory.proofs.AreaSmall.{below-node}
 use Rattle.book.specs.Rows.{rowsLength, bookRows, nodeOf, bookOf, encodable}
-use Rattle.book.specs.Encoding.{runBytes}
-use Rattle.book.proofs.Numbers.{run-bound}
+use Rattle.book.proofs.Numbers.{length-numbers}
 
 -- ---- one term
 
@@ -54,14 +53,6 @@ unfolding nodeNumbers arguments
 node-numbers var h = omega arith
 node-numbers (app s args) h = omega arith
 
--- the words of a term of small numbers are small
-below-node : (n : Node) → symbol n ≤ maxSymbol → length (arguments n) ≤ maxArity
-    → ((j : ℕ) → j < length (arguments n) → getD (arguments n) j 0 < suc maxNumber) → Below (suc maxNumber) (nodeWords n)
-unfolding nodeWords symbol arguments
-below-node var h g k = below-padded termWords (below-nil (omega arith))
-below-node (app s args) h g k =
-    below-cons (omega arith) (below-cons (omega arith) (below-padded maxArity (below-all args (omega arith) k)))
-
 -- ---- the numbers of a book
 
 -- at most one row for each term
@@ -72,11 +63,6 @@ book-numbers [] h = zero-le
 book-numbers (n ∷ b) h =
     rw (length-append (nodeNumbers n))
     (omega (arith, node-numbers n (h 0 (suc-le-suc zero-le)), book-numbers b (λ t l. h (suc t) (suc-le-suc l))))
-
--- a number takes at most three bytes
-length-numbers : (ns : List ℕ) → length (numberBytes ns) ≤ maxGroups * length ns
-unfolding runBytes
-length-numbers ns = rw (take-all (length ns) ns (omega arith)) at (run-bound ns 0 (length ns))
 
 module _ (b : Book) {β : Bindings} (f : Formed b β) (h : length b ≤ office .maxTerms) where
   -- THE ROWS OF A BOOK. Every row has its width.
@@ -103,7 +89,7 @@ module _ (b : Book) {β : Bindings} (f : Formed b β) (h : length b ≤ office .
   small-rows =
       below-padded rowsLength
       (below-rows nodeWords var b (omega arith)
-      (λ t l. below-node (getD b t var) (f .small-symbol t l) (f .small-arity t l)
+      (λ t l. below-node (suc maxNumber) (omega arith) (getD b t var) (f .small-symbol t l) (f .small-arity t l)
       (λ j k. let x : getD (arguments (getD b t var)) j 0 < t = f .lower t l j k in omega arith)))
 
   -- each count is within the limit

@@ -64,7 +64,7 @@ commonOne l r s a same = 0 ∷ l ∷ r ∷ 1 ∷ s ∷ 1 ∷ a ∷ replicate 7 0
 abbrev pub commonTwo : ℕ → ℕ → ℕ → ℕ → ℕ → ℕ → List ℕ
 commonTwo l r s a b same = 0 ∷ l ∷ r ∷ 1 ∷ s ∷ 2 ∷ a ∷ b ∷ replicate 6 0 ++ same ∷ []
 
--- The samples, in areas of capacity c; B2 has its own.
+-- The samples, in areas of capacity c; B2 has its own. Each ends with its report.
 abbrev pub samples : ℕ → List Sample
 samples c =
     -- A1: the pair, its arguments in their order, and the answer; no fourth entry
@@ -73,10 +73,17 @@ samples c =
       capacity = c;
       said =
           says (add 4 5) (0 ∷ 0 ∷ []) ∷ says (read 0) (commonTwo 4 5 2 1 2 0) ∷ says (read 1) (commonOne 2 3 1 2 1) ∷
-          says (read 2) (openEntry 0 1 2) ∷ says (read 3) (8 ∷ []) ∷ [];
+          says (read 2) (openEntry 0 1 2) ∷ says (read 3) (8 ∷ []) ∷
+          says (ask 64) (0 ∷ 1 ∷ 0 ∷ 3 ∷ 4 ∷ 5 ∷ 3 ∷ 2 ∷ 1 ∷ 2 ∷ 2 ∷ 3 ∷ 2 ∷ 1 ∷ 2 ∷ 0 ∷ 1 ∷ 0 ∷ []) ∷ [];
     } ∷
     -- A2: after A1's line, a choice turns one entry
-    record { book = bookA; capacity = c; said = says (add 4 5) (0 ∷ 0 ∷ []) ∷ says (fix 0 1) (0 ∷ 1 ∷ 0 ∷ []) ∷ [] } ∷
+    record {
+      book = bookA;
+      capacity = c;
+      said =
+          says (add 4 5) (0 ∷ 0 ∷ []) ∷ says (fix 0 1) (0 ∷ 1 ∷ 0 ∷ []) ∷
+          says (ask 64) (0 ∷ 1 ∷ 0 ∷ 3 ∷ 4 ∷ 4 ∷ 3 ∷ 2 ∷ 1 ∷ 2 ∷ 2 ∷ 2 ∷ 2 ∷ 1 ∷ 2 ∷ 0 ∷ 0 ∷ 4 ∷ 0 ∷ []) ∷ [];
+    } ∷
     -- A3: two open places become one: same-as of entry 1 falls to 0
     record {
       book = bookA;
@@ -87,18 +94,29 @@ samples c =
           says (ask 64) (0 ∷ 2 ∷ 0 ∷ 0 ∷ 1 ∷ 0 ∷ 2 ∷ 0 ∷ []) ∷ [];
     } ∷
     -- A4: the variable occurs in the term
-    record { book = bookA; capacity = c; said = says (fix 0 2) (10 ∷ []) ∷ [] } ∷
+    record { book = bookA; capacity = c; said = says (fix 0 2) (10 ∷ []) ∷ says (ask 64) (0 ∷ 0 ∷ 0 ∷ []) ∷ [] } ∷
     -- B1: a choice turns an entry and appends its argument pair
-    record { book = bookB; capacity = c; said = says (add 0 4) (0 ∷ 0 ∷ []) ∷ says (fix 0 3) (0 ∷ 1 ∷ 1 ∷ []) ∷ [] } ∷
+    record {
+      book = bookB;
+      capacity = c;
+      said =
+          says (add 0 4) (0 ∷ 0 ∷ []) ∷ says (fix 0 3) (0 ∷ 1 ∷ 1 ∷ []) ∷
+          says (ask 64) (0 ∷ 1 ∷ 0 ∷ 2 ∷ 0 ∷ 4 ∷ 2 ∷ 1 ∷ 1 ∷ 1 ∷ 2 ∷ 0 ∷ []) ∷ [];
+    } ∷
     -- B2: the same with room for one entry
-    record { book = bookB; capacity = 1; said = says (add 0 4) (0 ∷ 0 ∷ []) ∷ says (fix 0 3) (11 ∷ []) ∷ [] } ∷
+    record {
+      book = bookB;
+      capacity = 1;
+      said = says (add 0 4) (0 ∷ 0 ∷ []) ∷ says (fix 0 3) (11 ∷ []) ∷ says (ask 64) (0 ∷ 1 ∷ 0 ∷ 1 ∷ 0 ∷ 4 ∷ 0 ∷ []) ∷ [];
+    } ∷
     -- B3: after B1, a second choice; entry 0 keeps all
     record {
       book = bookB;
       capacity = c;
       said =
           says (add 0 4) (0 ∷ 0 ∷ []) ∷ says (fix 0 3) (0 ∷ 1 ∷ 1 ∷ []) ∷ says (read 0) (commonOne 0 4 1 1 0) ∷
-          says (fix 1 2) (0 ∷ 1 ∷ 0 ∷ []) ∷ says (read 0) (commonOne 0 4 1 1 0) ∷ [];
+          says (fix 1 2) (0 ∷ 1 ∷ 0 ∷ []) ∷ says (read 0) (commonOne 0 4 1 1 0) ∷
+          says (ask 64) (0 ∷ 1 ∷ 0 ∷ 2 ∷ 0 ∷ 0 ∷ 2 ∷ 1 ∷ 1 ∷ 1 ∷ 1 ∷ 4 ∷ 0 ∷ []) ∷ [];
     } ∷
     -- B4: a free variable against itself is one open place
     record {
@@ -109,7 +127,11 @@ samples c =
           says (ask 64) (0 ∷ 1 ∷ 0 ∷ 1 ∷ 1 ∷ 1 ∷ 0 ∷ []) ∷ [];
     } ∷
     -- B5: the variable occurs in the term through a binding
-    record { book = bookB; capacity = c; said = says (fix 0 1) (0 ∷ 0 ∷ 0 ∷ []) ∷ says (fix 1 0) (10 ∷ []) ∷ [] } ∷
+    record {
+      book = bookB;
+      capacity = c;
+      said = says (fix 0 1) (0 ∷ 0 ∷ 0 ∷ []) ∷ says (fix 1 0) (10 ∷ []) ∷ says (ask 64) (0 ∷ 0 ∷ 0 ∷ []) ∷ [];
+    } ∷
     -- Z1: the empty book's report
     record { book = 0 ∷ []; capacity = c; said = says (ask 64) (0 ∷ 0 ∷ 0 ∷ []) ∷ [] } ∷
     -- document 01's examples of refusals 8 to 11 and 13 ("Turned down")

@@ -30,13 +30,15 @@ some-word = omega arith
 below-arguments : (args : List ℕ) → ((j : ℕ) → j < length args → getD args j 0 < wordLimit) → Below wordLimit (padded maxArity args)
 below-arguments args h = below-padded maxArity (below-all args some-word h)
 
--- a node and a binding of small numbers
-below-node : (n : Node) → symbol n ≤ maxSymbol → length (arguments n) ≤ maxArity
-    → ((j : ℕ) → j < length (arguments n) → getD (arguments n) j 0 < wordLimit) → Below wordLimit (nodeWords n)
+-- the words of a node of small numbers are small, for any bound that its symbol and its count keep
+pub below-node : (w : ℕ) → suc maxSymbol < w → (n : Node) → symbol n ≤ maxSymbol → length (arguments n) ≤ maxArity
+    → ((j : ℕ) → j < length (arguments n) → getD (arguments n) j 0 < w) → Below w (nodeWords n)
 unfolding nodeWords symbol arguments
-below-node var h g k = below-padded termWords (below-nil some-word)
-below-node (app s args) h g k = below-cons (omega arith) (below-cons (omega arith) (below-arguments args k))
+below-node w p var h g k = below-padded termWords (below-nil (omega arith))
+below-node w p (app s args) h g k =
+    below-cons (omega arith) (below-cons (omega arith) (below-padded maxArity (below-all args (omega arith) k)))
 
+-- a binding of a small number
 below-binding : (o : Option ℕ) → ((u : ℕ) → o ≡ some u → suc u < wordLimit) → bindingWord o < wordLimit
 unfolding bindingWord
 below-binding none h = some-word
@@ -64,7 +66,7 @@ module _ (lim : Limits) (s : State) (m : Modest lim) (f : SoundFacts lim s) wher
   below-book : Below wordLimit (concatMap nodeWords (s .book))
   below-book =
       below-rows nodeWords var (s .book) some-word
-      (λ t l. below-node (getD (s .book) t var) (f .formed .small-symbol t l) (f .formed .small-arity t l)
+      (λ t l. below-node wordLimit (omega arith) (getD (s .book) t var) (f .formed .small-symbol t l) (f .formed .small-arity t l)
       (λ j k. let x : getD (arguments (getD (s .book) t var)) j 0 < t = f .formed .lower t l j k in omega arith))
 
   below-bound : Below wordLimit (map bindingWord (s .bound))

@@ -9,7 +9,7 @@ use lib.Seq.{take-append-seam}
 use lib.Dec.{T, eqb, ltb, leb, eqb→eq}
 use native.Mathlib.Omega.{arith}
 use borrow.Author.Tests.{eq-eqb, eqb-false}
-use Rattle.model.specs.Limits.{Limits}
+use Rattle.model.specs.Limits.{Limits, office}
 use Rattle.model.specs.Term.{Book, Bindings}
 use Rattle.model.specs.Step.{State, Answer, refused, accepted, bind, opened}
 use Rattle.model.specs.Report.{report, reportBytes, numberBytes}
@@ -42,6 +42,10 @@ use Rattle.theory.proofs.Simulation.{Lives, call-on, not-seven, sound-l
 use Rattle.theory.proofs.Again.{ended-lines, again-accepted, same-reports}
 use Rattle.theory.proofs.Opening.{Opens, opens}
 use Rattle.theory.proofs.StepsAlone.{alone}
+
+-- The office's limits are within themselves, so every theorem over `Modest` limits holds of them.
+pub office-modest : Modest office
+office-modest = record { terms = omega arith; capacity = omega arith; lines = omega arith }
 
 -- VALUES. What `proper` says.
 proper-facts : (b : Book) (β : Bindings) → T (proper b β) → Formed b β × Acyclic b β

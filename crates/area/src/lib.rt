@@ -1,12 +1,13 @@
-// The lent bytes as words and back: an area's header, its runs of words, and an entry's row (docs/LAYOUT.md).
+// An area in parts: its header, an array for each kind of row, and an entry's row as a struct (docs/LAYOUT.md).
 
 ghost use mathlib.Core.Path.{_≡_};
+ghost use mathlib.Core.List.{_++_};
 ghost use Prim.Native.Nat.{_+_, _*_, _≤_};
 ghost use lib.ListN.{length, take, drop};
-ghost use lib.Seq.{paste, sets};
+ghost use lib.Seq.{paste};
 ghost use Rattle.model.specs.Limits.{office};
-ghost use Rattle.model.specs.Area.{areaLength, fromBytes, toBytes, word, wordsAt};
-ghost use Rattle.area.specs.Words.{laid, cleared};
+ghost use Rattle.model.specs.Area.{wordSize, headerWords, termWords, entryRowWords, bindingsAt, linesAt, entriesAt, areaLength, word, wordsAt};
+ghost use Rattle.words.specs.Words.{laid};
 ghost use Rattle.area.specs.Row.{wordsOf, rowOf};
 
 // The length that an area of this capacity needs, in bytes.
@@ -15,65 +16,6 @@ pub fn needed_length(capacity: usize) -> usize
     ensures { λ r. ⌜ r ≡ areaLength office capacity ⌝ }
 {
     4 * (11524 + 14 * capacity)
-}
-
-// The word whose lowest byte stands at byte `at`.
-fn word_at(s: &[u8], at: usize) -> u32
-    requires { ⌜ at + 4 ≤ length (now s) ⌝ }
-    ensures { λ r. ⌜ r ≡ fromBytes (take 4 (drop at (now (s .entry)))) ⌝ }
-{
-    let a = s[at] as u32;
-    let b = s[at + 1] as u32;
-    let c = s[at + 2] as u32;
-    let d = s[at + 3] as u32;
-    a + 256 * b + 65536 * c + 16777216 * d
-}
-
-// Puts the bytes of `w` at byte `at`, the lowest first.
-fn put_word(area: &mut [u8], at: usize, w: u32)
-    requires { ⌜ at + 4 ≤ length (now area) ⌝ }
-    ensures { λ _. ⌜ now (area .exit) ≡ sets (now (area .entry)) at (toBytes 4 w) ⌝ }
-{
-    area[at] = (w % 256) as u8;
-    area[at + 1] = (w / 256 % 256) as u8;
-    area[at + 2] = (w / 65536 % 256) as u8;
-    area[at + 3] = (w / 16777216) as u8;
-}
-
-// Loads the words from word `start` on, as many as `words` has places.
-pub fn load(area: &[u8], start: usize, words: &mut [u32])
-    requires { ⌜ 4 * (start + length (now words)) ≤ length (now area) ⌝ }
-    ensures { λ _. ⌜ now (words .exit) ≡ wordsAt (now (area .entry)) start (length (now (words .entry))) ⌝ }
-{
-    let mut i = 0;
-    while i < words.len() {
-        words[i] = word_at(area, 4 * (start + i));
-        i += 1;
-    }
-}
-
-// Stores the words from word `start` on.
-pub fn store(area: &mut [u8], start: usize, words: &[u32])
-    requires { ⌜ 4 * (start + length (now words)) ≤ length (now area) ⌝ }
-    ensures { λ _. ⌜ now (area .exit) ≡ laid (now (area .entry)) start (now (words .entry)) ⌝ }
-{
-    let mut i = 0;
-    while i < words.len() {
-        put_word(area, 4 * (start + i), words[i]);
-        i += 1;
-    }
-}
-
-// Puts zeros from byte `from` up to byte `to`.
-pub fn clear(area: &mut [u8], from: usize, to: usize)
-    requires { ⌜ (from ≤ to) × (to ≤ length (now area)) ⌝ }
-    ensures { λ _. ⌜ now (area .exit) ≡ cleared (now (area .entry)) from to ⌝ }
-{
-    let mut i = from;
-    while i < to {
-        area[i] = 0;
-        i += 1;
-    }
 }
 
 // The header of an area.
@@ -90,10 +32,10 @@ pub fn load_header(area: &[u8]) -> Header
         × (r .entries ≡ word (now (area .entry)) 2) × (r .lines ≡ word (now (area .entry)) 3) ⌝ }
 {
     Header {
-        capacity: word_at(area, 0),
-        terms: word_at(area, 4),
-        entries: word_at(area, 8),
-        lines: word_at(area, 12),
+        capacity: words::word_at(area, 0),
+        terms: words::word_at(area, 4),
+        entries: words::word_at(area, 8),
+        lines: words::word_at(area, 12),
     }
 }
 
@@ -102,7 +44,69 @@ pub fn store_header(area: &mut [u8], h: Header)
     ensures { λ _. ⌜ now (area .exit) ≡ laid (now (area .entry)) 0 (wordsOf h) ⌝ }
 {
     let words = [h.capacity, h.terms, h.entries, h.lines];
-    store(area, 0, &words);
+    words::store(area, 0, &words);
+}
+
+// The rows of an area, an array of words for each kind: terms, bindings, lines, entries.
+
+pub fn load_terms(area: &[u8], terms: &mut [u32; 10240])
+    requires { ⌜ wordSize * bindingsAt office ≤ length (now area) ⌝ }
+    ensures { λ _. ⌜ now (terms .exit) ≡ wordsAt (now (area .entry)) headerWords (termWords * office .maxTerms) ⌝ }
+{
+    words::load(area, 4, terms);
+}
+
+pub fn store_terms(area: &mut [u8], terms: &[u32; 10240])
+    requires { ⌜ wordSize * bindingsAt office ≤ length (now area) ⌝ }
+    ensures { λ _. ⌜ now (area .exit) ≡ laid (now (area .entry)) headerWords (now (terms .entry)) ⌝ }
+{
+    words::store(area, 4, terms);
+}
+
+pub fn load_bindings(area: &[u8], bindings: &mut [u32; 1024])
+    requires { ⌜ wordSize * linesAt office ≤ length (now area) ⌝ }
+    ensures { λ _. ⌜ now (bindings .exit) ≡ wordsAt (now (area .entry)) (bindingsAt office) (office .maxTerms) ⌝ }
+{
+    words::load(area, 10244, bindings);
+}
+
+pub fn store_bindings(area: &mut [u8], bindings: &[u32; 1024])
+    requires { ⌜ wordSize * linesAt office ≤ length (now area) ⌝ }
+    ensures { λ _. ⌜ now (area .exit) ≡ laid (now (area .entry)) (bindingsAt office) (now (bindings .entry)) ⌝ }
+{
+    words::store(area, 10244, bindings);
+}
+
+pub fn load_lines(area: &[u8], lines: &mut [u32; 256])
+    requires { ⌜ wordSize * entriesAt office ≤ length (now area) ⌝ }
+    ensures { λ _. ⌜ now (lines .exit) ≡ wordsAt (now (area .entry)) (linesAt office) (office .maxLines) ⌝ }
+{
+    words::load(area, 11268, lines);
+}
+
+pub fn store_lines(area: &mut [u8], lines: &[u32; 256])
+    requires { ⌜ wordSize * entriesAt office ≤ length (now area) ⌝ }
+    ensures { λ _. ⌜ now (area .exit) ≡ laid (now (area .entry)) (linesAt office) (now (lines .entry)) ⌝ }
+{
+    words::store(area, 11268, lines);
+}
+
+// An area has as many rows of entries as its capacity. The array has room for these, and its rows behind them stay.
+pub fn load_entries(area: &[u8], capacity: usize, entries: &mut [u32])
+    requires { ⌜ (capacity ≤ office .maxCapacity) × (areaLength office capacity ≤ length (now area)) × (entryRowWords * capacity ≤ length (now entries)) ⌝ }
+    ensures { λ _. ⌜ now (entries .exit) ≡ wordsAt (now (area .entry)) (entriesAt office) (entryRowWords * capacity)
+        ++ drop (entryRowWords * capacity) (now (entries .entry)) ⌝ }
+{
+    let end = 14 * capacity;
+    words::load(area, 11524, &mut entries[..end]);
+}
+
+pub fn store_entries(area: &mut [u8], capacity: usize, entries: &[u32])
+    requires { ⌜ (capacity ≤ office .maxCapacity) × (areaLength office capacity ≤ length (now area)) × (entryRowWords * capacity ≤ length (now entries)) ⌝ }
+    ensures { λ _. ⌜ now (area .exit) ≡ laid (now (area .entry)) (entriesAt office) (take (entryRowWords * capacity) (now (entries .entry))) ⌝ }
+{
+    let end = 14 * capacity;
+    words::store(area, 11524, &entries[..end]);
 }
 
 // An entry: its pair of terms, kind (0 hole, 1 common), symbol, argument count, argument entries, and same-as.

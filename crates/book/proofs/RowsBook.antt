@@ -17,7 +17,7 @@ use Rattle.model.specs.BookBytes.{nodeNumbers, bookBytes}
 use Rattle.theory.proofs.Facts.{Formed}
 use Rattle.theory.proofs.Lists.{all-intro, length-from, getD-from}
 use Rattle.theory.proofs.Conjunctions.{and₃}
-use Rattle.theory.proofs.Rows.{Below, Wide, map-from, row, below-padded, below-rows}
+use Rattle.theory.proofs.Rows.{Below, Wide, length-rows, length-padded, map-from, row, below-padded, below-rows}
 use Rattle.theory.proofs.AreaRows.{width-node}
 use Rattle.theory.proofs.AreaSmall.{below-node}
 use Rattle.book.specs.Rows.{rowsLength, bookRows, nodeOf, bookOf, encodable}
@@ -68,6 +68,12 @@ module _ (b : Book) {β : Bindings} (f : Formed b β) (h : length b ≤ office .
   -- THE ROWS OF A BOOK. Every row has its width.
   wide : Wide nodeWords termWords var b
   wide t l = width-node (getD b t var) (f .small-arity t l)
+
+  -- so the rows fill their array
+  pub rows-length : length (bookRows b) ≡ rowsLength
+  unfolding bookRows
+  rows-length =
+      length-padded rowsLength (concatMap nodeWords b) (rw (length-rows nodeWords termWords var b wide) (omega arith))
 
   -- from row t on stand the words of term t
   row-stands : (t : ℕ) → t < length b → drop (termWords * t) (bookRows b) ≡ nodeWords (getD b t var) ++ drop termWords (drop (termWords * t) (bookRows b))

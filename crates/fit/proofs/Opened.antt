@@ -16,7 +16,7 @@ use Rattle.model.specs.Area.{wordSize, termWords, entryRowWords, toBytes, nodeW
 use Rattle.model.specs.Call.{over}
 use Rattle.theory.proofs.Lists.{concatMap-append}
 use Rattle.theory.proofs.Words.{length-words}
-use Rattle.area.specs.Words.{laid, cleared}
+use Rattle.words.specs.Words.{laid, cleared}
 use Rattle.fit.specs.Opened.{openedWords}
 
 -- words of zero are bytes of zero

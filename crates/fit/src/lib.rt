@@ -52,7 +52,7 @@ pub extern "C" fn fit_open(capacity: u32, book: &[u8], area: &mut [u8]) -> u32
 
 // Writes an area just opened: the header, the term rows, and zeros up to the needed length.
 fn write_opened(area: &mut [u8], capacity: u32, terms: u32, needed: usize, rows: &[u32; 10240])
-    requires { ⌜ (needed ≡ areaLength office capacity) × (needed ≤ length (now area)) ⌝ }
+    requires { ⌜ (needed ≡ areaLength office capacity) × (needed ≤ length (now area)) × (length (now rows) ≡ 10240) ⌝ }
     ensures { λ _. ⌜ now (area .exit) ≡ over (concatMap (toBytes wordSize) (openedWords capacity terms (now (rows .entry)))) (now (area .entry)) ⌝ }
 {
     let header = area::Header {
@@ -62,8 +62,8 @@ fn write_opened(area: &mut [u8], capacity: u32, terms: u32, needed: usize, rows:
         lines: 0,
     };
     area::store_header(area, header);
-    area::store(area, 4, rows);
-    area::clear(area, 40976, needed);
+    area::store_terms(area, rows);
+    words::clear(area, 40976, needed);
 }
 
 // Reads a book and writes it back, with no area: the book's refusals, then 13 where `out` is too short. `written` is the

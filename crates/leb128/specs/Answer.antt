@@ -1,6 +1,6 @@
--- The reader's answer, an enum, against the definitions, and the paper's number for each of its cases
+-- The reader's answer, an enum, against the definitions, and document 01's numbers for each of its cases
 -- (document 01, "Turned down", rows 1 and 2). Assumes nothing: these are definitions.
-use mathlib.Core.List.{List}
+use mathlib.Core.List.{List, [], _∷_}
 use Prim.Native.Nat.{ℕ, _-_}
 use lib.ListN.{length, drop}
 use Rattle.leb128.specs.Number.{Read, number, cut, invalid, read}
@@ -17,20 +17,19 @@ placed size invalid = Invalid
 unfoldable pub readAt : ℕ → ℕ → List ℕ → ℕ → Decoded
 readAt k limit bytes at = placed (length bytes) (read k limit (drop at bytes))
 
--- 0 for a number, else the refusal.
-abbrev pub refusal : Decoded → ℕ
-refusal (Number n next) = 0
-refusal Cut = 1
-refusal Invalid = 2
+-- The reader's answer as document 01's numbers, for each of its cases: 0, the number and the position after it; or the refusal
+-- and zeros for all else.
+unfoldable pub numbers : Decoded → List ℕ
+numbers (Number n next) = 0 ∷ n ∷ next ∷ []
+numbers Cut = 1 ∷ 0 ∷ 0 ∷ []
+numbers Invalid = 2 ∷ 0 ∷ 0 ∷ []
 
--- The number read, 0 where there is none.
-abbrev pub value : Decoded → ℕ
-value (Number n next) = n
-value Cut = 0
-value Invalid = 0
+-- What these numbers are to be, by what was read.
+unfoldable pub readNumbers : ℕ → Read → List ℕ
+readNumbers size (number n rest) = 0 ∷ n ∷ (size - length rest) ∷ []
+readNumbers size cut = 1 ∷ 0 ∷ 0 ∷ []
+readNumbers size invalid = 2 ∷ 0 ∷ 0 ∷ []
 
--- The position after the number, 0 where there is none.
-abbrev pub next : Decoded → ℕ
-next (Number n after) = after
-next Cut = 0
-next Invalid = 0
+-- The numbers that reading at a position answers.
+unfoldable pub numbersAt : ℕ → ℕ → List ℕ → ℕ → List ℕ
+numbersAt k limit bytes at = readNumbers (length bytes) (read k limit (drop at bytes))

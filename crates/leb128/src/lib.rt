@@ -5,7 +5,7 @@ ghost use mathlib.Core.List.{_++_};
 ghost use Prim.Native.Nat.{_<_};
 ghost use lib.ListN.{length, drop};
 ghost use Rattle.leb128.specs.Number.{maxGroups, maxNumber, write, writeWithin, readGroups, prepend, atMost};
-ghost use Rattle.leb128.specs.Answer.{readAt, placed};
+ghost use Rattle.leb128.specs.Answer.{readAt, placed, numbers, numbersAt};
 
 // What stands at a position: a number and the position after it, bytes that end too early, or no valid number.
 pub enum Decoded {
@@ -39,7 +39,8 @@ fn read_third(s: &[u8], at: usize, x: u32, y: u32) -> Decoded
 
 // Reads the number at position `at`, which may be any.
 pub fn read(s: &[u8], at: usize) -> Decoded
-    ensures { λ r. ⌜ r ≡ readAt maxGroups maxNumber (now (s .entry)) at ⌝ }
+    ensures answer { λ r. ⌜ r ≡ readAt maxGroups maxNumber (now (s .entry)) at ⌝ }
+    ensures numbers { λ r. ⌜ numbers r ≡ numbersAt maxGroups maxNumber (now (s .entry)) at ⌝ }
 {
     if s.len() <= at {
         return Decoded::Cut;

@@ -5,7 +5,7 @@ use native.Mathlib.Omega.{arith}
 use denote.Ref.{now}
 use Rattle.model.specs.Lists.{from}
 use Rattle.area.specs.Row.{rowOf}
-use Rattle.area.proofs.Elements.{each}
+use Rattle.words.proofs.Elements.{each}
 use borrow.Author.Needs.{needs}
 use Rattle.area.proofs.entry_at.Statement.{statement}
 use Rattle.area.proofs.entry_at.Tie as tie

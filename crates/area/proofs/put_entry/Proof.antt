@@ -3,7 +3,7 @@ use mathlib.Core.Path.{_≡_}
 use lib.ListN.{length}
 use Rattle.model.specs.Lists.{from}
 use Rattle.area.specs.Row.{rowOf}
-use Rattle.area.proofs.Elements.{every}
+use Rattle.words.proofs.Elements.{every}
 use borrow.Author.Needs.{needs}
 use Rattle.area.proofs.put_entry.Statement.{statement}
 use Rattle.area.proofs.put_entry.Tie as tie

@@ -11,8 +11,10 @@ use Rattle.model.specs.Area.{wordSize, toBytes, areaLength}
 use Rattle.model.specs.Call.{refuse, accept, over}
 use Rattle.model.specs.BookBytes.{parseBook}
 use Rattle.book.specs.Rows.{bookRows, decodedBook}
+use Rattle.theory.proofs.BookRound.{parsed-formed}
+use Rattle.book.proofs.RowsBook.{rows-length}
 use Rattle.fit.specs.Opened.{openedWords}
-use Rattle.fit.proofs.OpenCases.{inRange, length-of, none-out-of-range, some-in-range, open-four, open-seven, open-refused, open-accepted}
+use Rattle.fit.proofs.OpenCases.{inRange, decoded, length-of, none-out-of-range, some-in-range, open-four, open-seven, open-refused, open-accepted}
 use Rattle.fit.proofs.fit_open.Statement.{statement}
 use Rattle.fit.proofs.fit_open.Tie as tie
 
@@ -63,8 +65,14 @@ returns-3 c =
 
 write-opened-requires : tie.Need-write-opened-requires
 write-opened-requires c κs =
-    let long = c .before .before .before .before .before in
-    (needed (long .before), long .if2 .left)
+    let accepted = c .before .before in
+    let long = accepted .before .before .before in
+    let ensures = accepted .before .decode .ensures in
+    let bytes = now (long .before .before .before .before .before .args .book) in
+    let parses = decoded bytes (sym (ensures .0) ∙ accepted .if3 .left) in
+    let formed = parsed-formed office bytes (decodedBook (parseBook office bytes)) (parses .0) (parses .1) in
+    let rowed : accepted .before .decode .last .1 .0 ≡ bookRows (decodedBook (parseBook office bytes)) = ensures .1 .1 (accepted .if3 .left) in
+    (needed (long .before), long .if2 .left, ap length rowed ∙ rows-length (decodedBook (parseBook office bytes)) (formed .0) (formed .1))
 
 same-length : tie.Need-same-length
 same-length c = search needs

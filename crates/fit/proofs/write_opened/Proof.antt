@@ -6,7 +6,7 @@ use denote.Ref.{now}
 use lib.ListN.{length}
 use Rattle.model.specs.Area.{areaLength}
 use Rattle.area.specs.Row.{wordsOf}
-use Rattle.area.specs.Words.{laid, cleared}
+use Rattle.words.specs.Words.{laid, cleared}
 use Rattle.fit.proofs.Opened.{laid-opened}
 use Rattle.fit.proofs.write_opened.Statement.{statement}
 use Rattle.fit.proofs.write_opened.Tie as tie
@@ -15,9 +15,9 @@ store-header-requires : tie.Need-store-header-requires
 unfolding areaLength
 store-header-requires c κs = omega arith
 
-store-requires : tie.Need-store-requires
+store-terms-requires : tie.Need-store-terms-requires
 unfolding areaLength
-store-requires c κs = omega (arith, c .store-arg2 .given .0)
+store-terms-requires c κs = omega arith
 
 clear-requires : tie.Need-clear-requires
 unfolding areaLength
@@ -30,13 +30,13 @@ returns : tie.Need-returns
 unfolding wordsOf
 returns c =
     let stored = c .before .before .before .before .before .before in
-    let headed = stored .before .before .before .before .before in
+    let headed = stored .before .before .before .before in
     let s = headed .before .before .before in
     let rows = now (s .args .rows) in
     c .before .before .clear .ensures
-    ∙ ap₂ (λ area end. cleared area 40976 end) (stored .store .ensures ∙ ap (λ area. laid area 4 rows) (headed .store-header .ensures)) (s .pre .0)
-    ∙ laid-opened (s .args .capacity) (s .args .terms) rows (now (s .args .area)) (stored .before .store-arg2 .given .0)
+    ∙ ap₂ (λ area end. cleared area 40976 end) (stored .store-terms .ensures ∙ ap (λ area. laid area 4 rows) (headed .store-header .ensures)) (s .pre .0)
+    ∙ laid-opened (s .args .capacity) (s .args .terms) rows (now (s .args .area)) (s .pre .2)
 
 pub write-opened-spec : {M : Type 1} → statement M
 write-opened-spec =
-    tie.close (tie.spec store-header-requires store-requires clear-requires same-length returns)
+    tie.close (tie.spec store-header-requires store-terms-requires clear-requires same-length returns)

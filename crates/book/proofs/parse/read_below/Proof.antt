@@ -22,23 +22,23 @@ returns : tie.Need-returns
 returns c =
     let known = c .before .before in
     let a = known .before .before .before .before .args in
-    below-held _ _ _ _ _ (number-answered (now (a .bytes)) (a .at) (known .before .before .read .ensures) (known .value .given .1)) (c .if1 .taken)
+    below-held _ _ _ _ _ (number-answered (now (a .bytes)) (a .at) (known .before .before .read .ensures .0) (known .value .given .1)) (c .if1 .taken)
 
 returns-2 : tie.Need-returns-2
 returns-2 c =
     let known = c .before .before in
     let a = known .before .before .before .before .args in
-    below-broken _ _ _ _ _ (number-answered (now (a .bytes)) (a .at) (known .before .before .read .ensures) (known .value .given .1)) (c .if1 .left)
+    below-broken _ _ _ _ _ (number-answered (now (a .bytes)) (a .at) (known .before .before .read .ensures .0) (known .value .given .1)) (c .if1 .left)
 
 returns-3 : tie.Need-returns-3
 returns-3 c =
     let a = c .before .before .before .before .args in
-    below-refused _ _ _ _ (number-answered (now (a .bytes)) (a .at) (c .before .before .read .ensures) (c .enum-told .given .1))
+    below-refused _ _ _ _ (number-answered (now (a .bytes)) (a .at) (c .before .before .read .ensures .0) (c .enum-told .given .1))
 
 returns-4 : tie.Need-returns-4
 returns-4 c =
     let a = c .before .before .before .before .args in
-    below-refused _ _ _ _ (number-answered (now (a .bytes)) (a .at) (c .before .before .read .ensures) (c .enum-told2 .given .1))
+    below-refused _ _ _ _ (number-answered (now (a .bytes)) (a .at) (c .before .before .read .ensures .0) (c .enum-told2 .given .1))
 
 pub read-below-spec : {M : Type 1} → statement M
 read-below-spec =

@@ -6,7 +6,7 @@ use lib.ListN.{length, getD}
 use lib.Dec.{T}
 use Rattle.leb128.specs.Laws.{areBytes}
 use Rattle.model.specs.Area.{wordSize, toBytes, fromBytes, wordsAt}
-use Rattle.area.specs.Words.{laid}
+use Rattle.words.specs.Words.{laid}
 
 abbrev pub WordFromItsBytes : Type 0
 WordFromItsBytes = (k w : ℕ) → w < 256 ^ k → fromBytes (toBytes k w) ≡ w

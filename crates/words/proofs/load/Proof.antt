@@ -1,4 +1,4 @@
--- `area::load` meets its contract. The loop's invariant: the first `i` places hold the words, and the others are as they were.
+-- `words::load` meets its contract. The loop's invariant: the first `i` places hold the words, and the others are as they were.
 -- The measure is what is left of the places. Assumes nothing.
 use mathlib.Core.Path.{_≡_, refl, _∙_}
 use mathlib.Core.List.{_++_}
@@ -7,9 +7,9 @@ use native.Mathlib.Omega.{arith}
 use lib.ListN.{length, drop, length-set}
 use denote.Ref.{now}
 use Rattle.model.specs.Area.{word, wordsAt}
-use Rattle.area.proofs.Runs.{loads-none, loads-more, loads-all}
-use Rattle.area.proofs.load.Statement.{statement}
-use Rattle.area.proofs.load.Tie as tie
+use Rattle.words.proofs.Runs.{loads-none, loads-more, loads-all}
+use Rattle.words.proofs.load.Statement.{statement}
+use Rattle.words.proofs.load.Tie as tie
 
 abbrev Inv-loop : tie.InvT-loop
 Inv-loop area start words₀ i₀ words i = (i ≤ length words₀) × (length words ≡ length words₀) × (words ≡ wordsAt area start i ++ drop i words₀)

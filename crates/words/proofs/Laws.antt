@@ -9,9 +9,9 @@ use lib.Seq.{length-take-le, take-add, drop-drop}
 use Rattle.leb128.specs.Laws.{areBytes}
 use Rattle.model.specs.Lists.{from, concatMap}
 use Rattle.model.specs.Area.{wordSize, toBytes, fromBytes, word, wordsAt}
-use Rattle.area.specs.Words.{laid}
-use Rattle.area.specs.Laws.{WordFromItsBytes, BytesOfTheirWord, LoadsWhatIsStored, StoresWhatIsLoaded}
-use Rattle.area.proofs.Runs.{length-wordsAt}
+use Rattle.words.specs.Words.{laid}
+use Rattle.words.specs.Laws.{WordFromItsBytes, BytesOfTheirWord, LoadsWhatIsStored, StoresWhatIsLoaded}
+use Rattle.words.proofs.Runs.{length-wordsAt}
 use Rattle.theory.proofs.Lists.{and-left, and-right, and-both}
 use Rattle.theory.proofs.Rows.{map-from, drop-behind, below-all}
 use Rattle.theory.proofs.Words.{word-bytes, word-at}

@@ -9,7 +9,7 @@ use lib.ListN.{length, getD, take, drop, set, replicate, take-append-drop, lengt
 use lib.Seq.{sets, sets-eq, set-at, take-at, take-suc, drop-cons, drop-drop, drop-length, append-snoc, length-take-le}
 use Rattle.model.specs.Lists.{from, concatMap}
 use Rattle.model.specs.Area.{wordSize, toBytes, word, wordsAt}
-use Rattle.area.specs.Words.{laid, cleared}
+use Rattle.words.specs.Words.{laid, cleared}
 use Rattle.theory.proofs.Lists.{length-from, concatMap-append}
 use Rattle.theory.proofs.Rows.{drop-behind}
 use Rattle.theory.proofs.Words.{length-toBytes, length-words}

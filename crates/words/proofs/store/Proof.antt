@@ -1,4 +1,4 @@
--- `area::store` meets its contract. The loop's invariant: the first `i` words are laid. The measure is what is left of the
+-- `words::store` meets its contract. The loop's invariant: the first `i` words are laid. The measure is what is left of the
 -- words. Assumes nothing.
 use mathlib.Core.Path.{_≡_, refl, ap, _∙_}
 use Prim.Native.Nat.{_≤_, _-_}
@@ -6,10 +6,10 @@ use native.Mathlib.Omega.{arith}
 use lib.ListN.{length, take}
 use lib.Seq.{take-all}
 use denote.Ref.{now}
-use Rattle.area.specs.Words.{laid}
-use Rattle.area.proofs.Runs.{lays-none, lays-more}
-use Rattle.area.proofs.store.Statement.{statement}
-use Rattle.area.proofs.store.Tie as tie
+use Rattle.words.specs.Words.{laid}
+use Rattle.words.proofs.Runs.{lays-none, lays-more}
+use Rattle.words.proofs.store.Statement.{statement}
+use Rattle.words.proofs.store.Tie as tie
 
 abbrev Inv-loop : tie.InvT-loop
 Inv-loop area₀ start words i₀ area i = (i ≤ length words) × (length area ≡ length area₀) × (area ≡ laid area₀ start (take i words))

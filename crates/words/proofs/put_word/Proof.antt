@@ -1,11 +1,11 @@
--- `area::put_word` meets its contract: the four stores are the bytes of the word, one after the other. Assumes nothing.
+-- `words::put_word` meets its contract: the four stores are the bytes of the word, one after the other. Assumes nothing.
 use native.Mathlib.Numerals.{towards-suc}
 use native.Mathlib.Omega.{arith}
 use lib.ListN.{length-set}
-use Rattle.area.proofs.Elements.{bytes-of}
+use Rattle.words.proofs.Elements.{bytes-of}
 use borrow.Author.Needs.{needs}
-use Rattle.area.proofs.put_word.Statement.{statement}
-use Rattle.area.proofs.put_word.Tie as tie
+use Rattle.words.proofs.put_word.Statement.{statement}
+use Rattle.words.proofs.put_word.Tie as tie
 
 cast-area : tie.Need-cast-area
 cast-area c = search needs

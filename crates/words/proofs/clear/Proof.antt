@@ -1,14 +1,14 @@
--- `area::clear` meets its contract. The loop's invariant: the bytes from `from` up to `i` are cleared. The measure is what is
+-- `words::clear` meets its contract. The loop's invariant: the bytes from `from` up to `i` are cleared. The measure is what is
 -- left up to `to`. Assumes nothing.
 use mathlib.Core.Path.{_≡_, refl, ap, _∙_}
 use Prim.Native.Nat.{_≤_, _-_}
 use native.Mathlib.Omega.{arith}
 use lib.ListN.{length, length-set}
 use denote.Ref.{now}
-use Rattle.area.specs.Words.{cleared}
-use Rattle.area.proofs.Runs.{clears-none, clears-more}
-use Rattle.area.proofs.clear.Statement.{statement}
-use Rattle.area.proofs.clear.Tie as tie
+use Rattle.words.specs.Words.{cleared}
+use Rattle.words.proofs.Runs.{clears-none, clears-more}
+use Rattle.words.proofs.clear.Statement.{statement}
+use Rattle.words.proofs.clear.Tie as tie
 
 abbrev Inv-loop : tie.InvT-loop
 Inv-loop area₀ from to i₀ area i = (from ≤ i) × (i ≤ to) × (length area ≡ length area₀) × (area ≡ cleared area₀ from i)

@@ -1,12 +1,12 @@
--- `area::word_at` meets its contract: four bytes, each below 256, make a word that fits. Assumes nothing.
+-- `words::word_at` meets its contract: four bytes, each below 256, make a word that fits. Assumes nothing.
 use Prim.Native.Nat.{_+_, _<_}
 use native.Mathlib.Omega.{arith}
 use lib.ListN.{getD}
 use denote.Ref.{now}
-use Rattle.area.proofs.Elements.{word-of}
+use Rattle.words.proofs.Elements.{word-of}
 use borrow.Author.Needs.{needs}
-use Rattle.area.proofs.word_at.Statement.{statement}
-use Rattle.area.proofs.word_at.Tie as tie
+use Rattle.words.proofs.word_at.Statement.{statement}
+use Rattle.words.proofs.word_at.Tie as tie
 
 -- the four bytes are below 256
 bytes : (c : tie.After-shared-slice-known4)

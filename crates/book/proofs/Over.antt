@@ -9,17 +9,17 @@ use lib.Seq.{length-take-le, take-at, take-all, drop-drop}
 use Rattle.leb128.specs.Number.{maxGroups, maxNumber, write, writeWithin}
 use Rattle.leb128.proofs.Writing.{all-written}
 use Rattle.theory.proofs.Rows.{drop-behind}
-use Rattle.book.specs.Encoding.{over}
+use Rattle.book.specs.Encoding.{overAt}
 
 module _ (out : List ℕ) where
   -- no bytes change nothing
-  pub over-none : (at : ℕ) → over out at [] ≡ out
-  unfolding over
+  pub over-none : (at : ℕ) → overAt out at [] ≡ out
+  unfolding overAt
   over-none at = rw add-zero (take-append-drop at out)
 
   -- at the front nothing is kept before the bytes
-  pub over-front : (bytes : List ℕ) → over out 0 bytes ≡ bytes ++ drop (length bytes) out
-  unfolding over
+  pub over-front : (bytes : List ℕ) → overAt out 0 bytes ≡ bytes ++ drop (length bytes) out
+  unfolding overAt
   over-front bytes = rw zero-add
 
   module _ (at : ℕ) (xs : List ℕ) (room : at + length xs ≤ length out) where
@@ -28,13 +28,13 @@ module _ (out : List ℕ) where
     seam = rw (length-append, length-take-le at out (omega arith))
 
     -- the length stays
-    pub length-over : length (over out at xs) ≡ length out
-    unfolding over
+    pub length-over : length (overAt out at xs) ≡ length out
+    unfolding overAt
     length-over = rw (← append-assoc, length-append, seam, length-drop) (omega arith)
 
     -- bytes behind bytes are both at once
-    pub over-more : (ys : List ℕ) → over (over out at xs) (at + length xs) ys ≡ over out at (xs ++ ys)
-    unfolding over
+    pub over-more : (ys : List ℕ) → overAt (overAt out at xs) (at + length xs) ys ≡ overAt out at (xs ++ ys)
+    unfolding overAt
     over-more ys =
         rw (
           ← append-assoc (take at out) xs (drop (at + length xs) out),
@@ -48,7 +48,7 @@ module _ (out : List ℕ) where
 
 -- the bytes laid over `out` from `at` on give `end`, and `next` is the place behind them
 abbrev pub Laid : List ℕ → ℕ → List ℕ → List ℕ → ℕ → Type 0
-Laid out at bytes end next = (next ≡ at + length bytes) × (end ≡ over out at bytes)
+Laid out at bytes end next = (next ≡ at + length bytes) × (end ≡ overAt out at bytes)
 
 module _ (out : List ℕ) (at : ℕ) where
   -- at first no bytes are laid
@@ -86,8 +86,8 @@ module _ (out : List ℕ) (at n : ℕ) (small : n ≤ maxNumber) (room : at + le
 
   pub put-part : (r : ℕ) (last : List ℕ) → r ≡ length (writeWithin maxGroups maxNumber (length part) n)
       → last ≡ writeWithin maxGroups maxNumber (length part) n ++ drop r part
-      → (at + r ≡ at + length (write maxGroups n)) × (take at out ++ (last ++ drop (length out - at) (drop at out)) ≡ over out at (write maxGroups n))
-  unfolding over
+      → (at + r ≡ at + length (write maxGroups n)) × (take at out ++ (last ++ drop (length out - at) (drop at out)) ≡ overAt out at (write maxGroups n))
+  unfolding overAt
   put-part r last e f =
       let count : r ≡ length (write maxGroups n) = rw written at e in
       let bytes : last ≡ write maxGroups n ++ drop r part = rw written at f in

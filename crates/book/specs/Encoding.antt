@@ -34,5 +34,5 @@ unfoldable pub termsBytes : List ℕ → ℕ → List ℕ
 termsBytes rows t = numberBytes (concatMap nodeNumbers (bookOf rows t))
 
 -- The list with the bytes from place `at` on, and everything else as it was.
-unfoldable pub over : List ℕ → ℕ → List ℕ → List ℕ
-over out at bytes = take at out ++ (bytes ++ drop (at + length bytes) out)
+unfoldable pub overAt : List ℕ → ℕ → List ℕ → List ℕ
+overAt out at bytes = take at out ++ (bytes ++ drop (at + length bytes) out)

@@ -7,7 +7,7 @@ ghost use Rattle.leb128.specs.Number.{maxGroups, maxNumber, write};
 ghost use Rattle.model.specs.Area.{termWords};
 ghost use Rattle.model.specs.BookBytes.{nodeNumbers};
 ghost use Rattle.book.specs.Rows.{nodeOf};
-ghost use Rattle.book.specs.Encoding.{smallWords, RowFits, runBytes, termBytes, over};
+ghost use Rattle.book.specs.Encoding.{smallWords, RowFits, runBytes, termBytes, overAt};
 
 // How many of the words of row `t` are numbers of the term: 1 for a variable, else the symbol, the count and the arguments.
 fn numbers_of(rows: &[u32], t: usize) -> usize
@@ -52,7 +52,7 @@ pub fn term_length(rows: &[u32], t: usize) -> usize
 pub fn put_number(out: &mut [u8], at: usize, n: u32) -> usize
     requires { ⌜ (n ≤ maxNumber) × (at + length (write maxGroups n) ≤ length (now out)) ⌝ }
     ensures next { λ r. ⌜ r ≡ at + length (write maxGroups n) ⌝ }
-    ensures bytes { λ r. ⌜ now (out .exit) ≡ over (now (out .entry)) at (write maxGroups n) ⌝ }
+    ensures bytes { λ r. ⌜ now (out .exit) ≡ overAt (now (out .entry)) at (write maxGroups n) ⌝ }
 {
     at + leb128::write(&mut out[at..], n)
 }
@@ -62,7 +62,7 @@ fn put_run(rows: &[u32], start: usize, count: usize, out: &mut [u8], at: usize) 
     requires { ⌜ (start + count ≤ length (now rows)) × smallWords (now rows)
         × (at + length (runBytes (now rows) start count) ≤ length (now out)) ⌝ }
     ensures next { λ r. ⌜ r ≡ at + length (runBytes (now (rows .entry)) start count) ⌝ }
-    ensures bytes { λ r. ⌜ now (out .exit) ≡ over (now (out .entry)) at (runBytes (now (rows .entry)) start count) ⌝ }
+    ensures bytes { λ r. ⌜ now (out .exit) ≡ overAt (now (out .entry)) at (runBytes (now (rows .entry)) start count) ⌝ }
 {
     let mut next = at;
     let mut i: usize = 0;
@@ -78,7 +78,7 @@ fn put_run(rows: &[u32], start: usize, count: usize, out: &mut [u8], at: usize) 
 pub fn put_term(rows: &[u32], t: usize, out: &mut [u8], at: usize) -> usize
     requires { ⌜ RowFits (now rows) t × smallWords (now rows) × (at + length (termBytes (now rows) t) ≤ length (now out)) ⌝ }
     ensures next { λ r. ⌜ r ≡ at + length (termBytes (now (rows .entry)) t) ⌝ }
-    ensures bytes { λ r. ⌜ now (out .exit) ≡ over (now (out .entry)) at (termBytes (now (rows .entry)) t) ⌝ }
+    ensures bytes { λ r. ⌜ now (out .exit) ≡ overAt (now (out .entry)) at (termBytes (now (rows .entry)) t) ⌝ }
 {
     let count = numbers_of(rows, t);
     put_run(rows, 10 * t, count, out, at)

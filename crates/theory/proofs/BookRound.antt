@@ -21,13 +21,8 @@ use Rattle.model.specs.Report.{numberBytes}
 use Rattle.model.specs.BookBytes.{parsed, fromRead, parseNumber, arityFits, parseArguments, parseApp, parseNode, parseTerms, parseBook, nodeNumbers, bookBytes}
 use Rattle.theory.proofs.Lists.{and-right, T-true, all-at, all-intro, concatMap-append}
 use Rattle.theory.proofs.Gives.{Gives, gives-at, need-gives, andThen-gives, andThen-any}
+use Rattle.theory.proofs.AreBytes.{bytes-behind}
 use Rattle.theory.proofs.Facts.{Formed, TableRight, SoundFacts}
-
--- what follows bytes is bytes
-bytes-behind : (xs ys : List ℕ) → T (areBytes (xs ++ ys)) → T (areBytes ys)
-unfolding areBytes
-bytes-behind [] ys h = h
-bytes-behind (x ∷ xs) ys h = bytes-behind xs ys (and-right (ltb x 256) (areBytes (xs ++ ys)) h)
 
 -- The bytes are those of the numbers ns, and the rest.
 record Wrote (bytes ns rest : List ℕ) : Type 0 where

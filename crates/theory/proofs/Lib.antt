@@ -34,6 +34,7 @@ pub mod AreaRows
 pub mod AreaWords
 pub mod AreaState
 pub mod AreaBytes
+pub mod AreBytes
 pub mod Gives
 pub mod BookRound
 pub mod RunStates

@@ -13,6 +13,7 @@ use Rattle.words.specs.Words.{laid}
 use Rattle.words.specs.Laws.{WordFromItsBytes, BytesOfTheirWord, LoadsWhatIsStored, StoresWhatIsLoaded}
 use Rattle.words.proofs.Runs.{length-wordsAt}
 use Rattle.theory.proofs.Lists.{and-left, and-right, and-both}
+use Rattle.theory.proofs.AreBytes.{bytes-drop, bytes-take}
 use Rattle.theory.proofs.Rows.{map-from, drop-behind, below-all}
 use Rattle.theory.proofs.Words.{word-bytes, word-at}
 
@@ -42,22 +43,6 @@ loads-what-is-stored area start words h small = map-from (word (laid area start 
         let rest = drop (wordSize * (start + length words)) area in
         rw (apart, drop-behind (take s area) (concatMap (toBytes wordSize) words ++ rest) s (wordSize * j) (length-take-le s area (omega arith)))
         (word-at words rest (below-all words (omega arith) small) j l)
-
--- what is left of bytes are bytes
-bytes-drop : (n : ℕ) (xs : List ℕ) → T (areBytes xs) → T (areBytes (drop n xs))
-unfolding areBytes
-bytes-drop zero xs t = t
-bytes-drop (suc n) [] t = t
-bytes-drop (suc n) (x ∷ xs) t = bytes-drop n xs (and-right (ltb x 256) (areBytes xs) t)
-
--- the first of bytes are bytes
-bytes-take : (n : ℕ) (xs : List ℕ) → T (areBytes xs) → T (areBytes (take n xs))
-unfolding areBytes
-bytes-take zero xs t = tt
-bytes-take (suc n) [] t = tt
-bytes-take (suc n) (x ∷ xs) t =
-    and-both (ltb x 256) (areBytes (take n xs)) (and-left (ltb x 256) (areBytes xs) t)
-    (bytes-take n xs (and-right (ltb x 256) (areBytes xs) t))
 
 module _ (area : List ℕ) (bytes : T (areBytes area)) where
   -- the bytes of one word

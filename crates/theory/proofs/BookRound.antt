@@ -19,7 +19,7 @@ use Rattle.model.specs.Term.{Node, var, app, symbol, arguments, alike, Book, Bi
 use Rattle.model.specs.Step.{opened}
 use Rattle.model.specs.Report.{numberBytes}
 use Rattle.model.specs.BookBytes.{parsed, fromRead, parseNumber, arityFits, parseArguments, parseApp, parseNode, parseTerms, parseBook, nodeNumbers, bookBytes}
-use Rattle.theory.proofs.Lists.{and-right, T-true, all-at, all-intro, concatMap-append}
+use Rattle.theory.proofs.Lists.{T-true, all-at, all-intro, concatMap-append}
 use Rattle.theory.proofs.Gives.{Gives, gives-at, need-gives, andThen-gives, andThen-any}
 use Rattle.theory.proofs.AreBytes.{bytes-behind}
 use Rattle.theory.proofs.Facts.{Formed, TableRight, SoundFacts}

@@ -8,7 +8,7 @@ use native.Mathlib.Omega.{arith}
 use lib.ListN.{length, drop, set, length-append}
 use lib.Seq.{sets}
 use Rattle.model.specs.Area.{termWords}
-use Rattle.model.specs.BookBytes.{parsed, refused, parseArguments}
+use Rattle.model.specs.BookBytes.{parsed, unparsed, parseArguments}
 use Rattle.book.specs.declared.parse.Step.the-variants.{Next}
 use Rattle.book.specs.Parts.{parseBelow, StepOf, ArgumentsIn}
 use Rattle.book.proofs.Parsing.{behind, behind-none, behind-more, behind-refused, behind-last}
@@ -45,7 +45,7 @@ module _ (bytes : List ℕ) (at t count : ℕ) (rows₀ : List ℕ) where
           parse = r .parse ∙ rw left (behind-more t (count - (i + 1)) (r .args) (drop next bytes) a (drop after bytes) e);
         }
 
-    pub read-refused : (k : ℕ) → i < count → parseBelow t 5 (drop next bytes) ≡ refused k → parseArguments t count (drop at bytes) ≡ refused k
+    pub read-refused : (k : ℕ) → i < count → parseBelow t 5 (drop next bytes) ≡ unparsed k → parseArguments t count (drop at bytes) ≡ unparsed k
     read-refused k l e =
         let left : count - i ≡ suc (count - (i + 1)) = omega arith in
         r .parse ∙ rw left (behind-refused t (count - (i + 1)) (r .args) (drop next bytes) k e)

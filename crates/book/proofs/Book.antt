@@ -10,7 +10,7 @@ use Rattle.model.specs.Limits.{office}
 use Rattle.model.specs.Lists.{concatMap}
 use Rattle.model.specs.Term.{Node, var, app, Book}
 use Rattle.model.specs.Area.{termWords, nodeWords}
-use Rattle.model.specs.BookBytes.{refused, andThen, parseTerms}
+use Rattle.model.specs.BookBytes.{unparsed, andThen, parseTerms}
 use Rattle.book.specs.declared.parse.Step.{Step}
 use Rattle.book.specs.declared.parse.Step.the-variants.{Next, Refused}
 use Rattle.book.specs.Rows.{rowsLength, bookRows}
@@ -82,9 +82,9 @@ module _ (bytes : List ℕ) (at count : ℕ) where
           → Read bytes at count rows′ counts′ after (t + 1)
       read-more a after m s e = more after m (subst Answered e s)
 
-      pub read-refused : (a : Step) (k : ℕ) → Answered a → a ≡ Refused k → parseTerms count [] (drop at bytes) ≡ refused k
+      pub read-refused : (a : Step) (k : ℕ) → Answered a → a ≡ Refused k → parseTerms count [] (drop at bytes) ≡ unparsed k
       unfolding andThen
-      read-refused a k s e = let d : parseTerm counts t (drop next bytes) ≡ refused k = subst Answered e s in next-parsed ∙ rw d
+      read-refused a k s e = let d : parseTerm counts t (drop next bytes) ≡ unparsed k = subst Answered e s in next-parsed ∙ rw d
 
   pub read-all : (rows counts : List ℕ) (next t : ℕ) → Read bytes at count rows counts next t → count ≤ t
       → StepOf bytes (parseTerms count [] (drop at bytes)) (BookIn count rows) (Next next)

@@ -11,7 +11,7 @@ use Rattle.leb128.specs.Number.{maxGroups, maxNumber, write}
 use Rattle.leb128.proofs.Laws.{writes-bytes}
 use Rattle.model.specs.Lists.{concatMap}
 use Rattle.model.specs.Report.{numberBytes}
-use Rattle.theory.proofs.Lists.{concatMap-append, all-at}
+use Rattle.theory.proofs.Lists.Laws.{concatMap-append, all-at}
 use Rattle.book.specs.Encoding.{smallWords, runBytes}
 
 -- the bytes of numbers put together

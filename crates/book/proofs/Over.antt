@@ -8,7 +8,7 @@ use lib.ListN.{length, take, drop, length-append, length-drop, take-append-drop,
 use lib.Seq.{length-take-le, take-at, take-all, drop-drop}
 use Rattle.leb128.specs.Number.{maxGroups, maxNumber, write, writeWithin}
 use Rattle.leb128.proofs.Writing.{all-written}
-use Rattle.theory.proofs.Rows.{drop-behind}
+use Rattle.theory.proofs.Lists.Rows.{drop-behind}
 use Rattle.book.specs.Encoding.{overAt}
 
 module _ (out : List ℕ) where

@@ -13,7 +13,7 @@ use Rattle.leb128.specs.Answer.{placed, readAt}
 use Rattle.leb128.specs.declared.Decoded.{Decoded}
 use Rattle.leb128.specs.declared.Decoded.the-variants.{Number, Cut, Invalid}
 use Rattle.leb128.proofs.Laws.{rest-is-a-tail}
-use Rattle.model.specs.BookBytes.{Parsed, parsed, refused, andThen, need, fromRead, parseNumber, parseArguments}
+use Rattle.model.specs.BookBytes.{Parsed, parsed, unparsed, andThen, need, fromRead, parseNumber, parseArguments}
 use Rattle.book.specs.Parts.{parseBelow}
 
 -- ---- numbers at a position
@@ -21,8 +21,8 @@ use Rattle.book.specs.Parts.{parseBelow}
 -- the outcome that the reader of a number answers
 abbrev pub numberOf : List ℕ → Decoded → Parsed ℕ
 numberOf bytes (Number n next) = parsed n (drop next bytes)
-numberOf bytes Cut = refused 1
-numberOf bytes Invalid = refused 2
+numberOf bytes Cut = unparsed 1
+numberOf bytes Invalid = unparsed 2
 
 -- what follows the number at a position is what stands at the position after it
 rest-there : (bytes : List ℕ) (at n : ℕ) (rest : List ℕ) → read maxGroups maxNumber (drop at bytes) ≡ number n rest
@@ -56,11 +56,11 @@ module _ (limit k : ℕ) (bytes : List ℕ) where
   unfolding parseBelow andThen need
   below-held n rest e h = rw (e, lt-ltb n limit h)
 
-  pub below-broken : (n : ℕ) (rest : List ℕ) → parseNumber bytes ≡ parsed n rest → limit ≤ n → parseBelow limit k bytes ≡ refused k
+  pub below-broken : (n : ℕ) (rest : List ℕ) → parseNumber bytes ≡ parsed n rest → limit ≤ n → parseBelow limit k bytes ≡ unparsed k
   unfolding parseBelow andThen need
   below-broken n rest e h = rw (e, le-ltb n limit h)
 
-  pub below-refused : (m : ℕ) → parseNumber bytes ≡ refused m → parseBelow limit k bytes ≡ refused m
+  pub below-refused : (m : ℕ) → parseNumber bytes ≡ unparsed m → parseBelow limit k bytes ≡ unparsed m
   unfolding parseBelow andThen
   below-refused m e = rw e
 
@@ -75,7 +75,7 @@ module _ (limit k : ℕ) (bytes : List ℕ) where
 
       go : (p : Parsed ℕ) → parseNumber bytes ≡ p → n < limit
       go (parsed m l) q = test m l (ltb m limit) refl (rw q at e)
-      go (refused m) q = let d : refused m ≡ parsed n rest = rw q at e in let z : _≡_ {A = ℕ} 0 1 = cc in absurd (omega arith)
+      go (unparsed m) q = let d : unparsed m ≡ parsed n rest = rw q at e in let z : _≡_ {A = ℕ} 0 1 = cc in absurd (omega arith)
 
   -- a number that is needed to be below the limit, and what follows it
   pub below-then : {A : Type 0} (f : ℕ → List ℕ → Parsed A)
@@ -90,7 +90,7 @@ module _ (limit k : ℕ) (bytes : List ℕ) where
       go : (p : Parsed ℕ) → andThen p (λ n rest. need (ltb n limit) k (f n rest))
           ≡ andThen (andThen p (λ n rest. need (ltb n limit) k (parsed n rest))) f
       go (parsed n rest) = test (ltb n limit) n rest
-      go (refused m) = refl
+      go (unparsed m) = refl
 
 -- ---- one part after another
 
@@ -99,20 +99,20 @@ pub then-then : {A B C : Type 0} (p : Parsed A) (f : A → List ℕ → Parsed B
     → andThen (andThen p f) g ≡ andThen p (λ a rest. andThen (f a rest) g)
 unfolding andThen
 then-then (parsed a rest) f g = refl
-then-then (refused k) f g = refl
+then-then (unparsed k) f g = refl
 
 -- nothing follows
 then-same : {A : Type 0} (p : Parsed A) → andThen p parsed ≡ p
 unfolding andThen
 then-same (parsed a rest) = refl
-then-same (refused k) = refl
+then-same (unparsed k) = refl
 
 -- the same follows
 pub then-alike : {A B : Type 0} (p : Parsed A) (f g : A → List ℕ → Parsed B) → ((a : A) (rest : List ℕ) → f a rest ≡ g a rest)
     → andThen p f ≡ andThen p g
 unfolding andThen
 then-alike (parsed a rest) f g h = h a rest
-then-alike (refused k) f g h = refl
+then-alike (unparsed k) f g h = refl
 
 -- ---- a number up to a limit
 
@@ -154,7 +154,7 @@ module _ (t c : ℕ) (args bytes : List ℕ) where
   unfolding behind andThen
   behind-more a rest e = rw (arguments-more t c bytes, e) (simp (then-then, append-snoc))
 
-  pub behind-refused : (k : ℕ) → parseBelow t 5 bytes ≡ refused k → behind args (parseArguments t (suc c) bytes) ≡ refused k
+  pub behind-refused : (k : ℕ) → parseBelow t 5 bytes ≡ unparsed k → behind args (parseArguments t (suc c) bytes) ≡ unparsed k
   unfolding behind andThen
   behind-refused k e = rw (arguments-more t c bytes, e)
 

@@ -14,12 +14,12 @@ use Rattle.model.specs.Lists.{all, from, concatMap, padded}
 use Rattle.model.specs.Term.{Node, var, app, symbol, arguments, Book, Bindings}
 use Rattle.model.specs.Area.{termWords, nodeWords}
 use Rattle.model.specs.BookBytes.{nodeNumbers, bookBytes}
-use Rattle.theory.proofs.Facts.{Formed}
-use Rattle.theory.proofs.Lists.{all-intro, length-from, getD-from}
-use Rattle.theory.proofs.Conjunctions.{and₃}
-use Rattle.theory.proofs.Rows.{Below, Wide, length-rows, length-padded, map-from, row, below-padded, below-rows}
-use Rattle.theory.proofs.AreaRows.{width-node}
-use Rattle.theory.proofs.AreaSmall.{below-node}
+use Rattle.theory.proofs.Soundness.Facts.{Formed}
+use Rattle.theory.proofs.Lists.Laws.{all-intro, length-from, getD-from}
+use Rattle.theory.proofs.Lists.Conjunctions.{and₃}
+use Rattle.theory.proofs.Lists.Rows.{Below, Wide, length-rows, length-padded, map-from, row, below-padded, below-rows}
+use Rattle.theory.proofs.Area.Rows.{width-node}
+use Rattle.theory.proofs.Area.Small.{below-node}
 use Rattle.book.specs.Rows.{rowsLength, bookRows, nodeOf, bookOf, encodable}
 use Rattle.book.proofs.Numbers.{length-numbers}
 

@@ -9,7 +9,7 @@ use lib.ListN.{getD, set}
 use Rattle.model.specs.Limits.{maxArity, maxSymbol}
 use Rattle.model.specs.Term.{var, app}
 use Rattle.model.specs.Area.{termWords}
-use Rattle.model.specs.BookBytes.{Parsed, parsed, refused, andThen, need, parseArguments}
+use Rattle.model.specs.BookBytes.{Parsed, parsed, unparsed, andThen, need, parseArguments}
 use Rattle.book.specs.declared.parse.Step.{Step}
 use Rattle.book.specs.declared.parse.Step.the-variants.{Next, Refused}
 use Rattle.book.specs.Parts.{parseBelow, fitsEntry, parseCounted, parseTagged, parseTerm, rowNumbers, noted, StepOf, ArgumentsIn, TermIn}
@@ -29,11 +29,11 @@ module _ (counts : List ℕ) (t s : ℕ) (bytes : List ℕ) where
   counted-held c rest e h = rw (e, h)
 
   pub counted-broken : (c : ℕ) (rest : List ℕ) → parseBelow (suc maxArity) 4 bytes ≡ parsed c rest → fitsEntry (getD counts s 0) c ≡ false
-      → parseCounted counts t s bytes ≡ refused 6
+      → parseCounted counts t s bytes ≡ unparsed 6
   unfolding parseCounted andThen need
   counted-broken c rest e h = rw (e, h)
 
-  pub counted-refused : (k : ℕ) → parseBelow (suc maxArity) 4 bytes ≡ refused k → parseCounted counts t s bytes ≡ refused k
+  pub counted-refused : (k : ℕ) → parseBelow (suc maxArity) 4 bytes ≡ unparsed k → parseCounted counts t s bytes ≡ unparsed k
   unfolding parseCounted andThen
   counted-refused k e = rw e
 
@@ -50,7 +50,7 @@ module _ (counts : List ℕ) (t : ℕ) (bytes : List ℕ) where
   term-app zero rest e z = absurd (z refl)
   term-app (suc n) rest e z = let same : suc n - 1 ≡ n = omega arith in rw (e, same)
 
-  pub term-refused : (k : ℕ) → parseBelow (suc (suc maxSymbol)) 4 bytes ≡ refused k → parseTerm counts t bytes ≡ refused k
+  pub term-refused : (k : ℕ) → parseBelow (suc (suc maxSymbol)) 4 bytes ≡ unparsed k → parseTerm counts t bytes ≡ unparsed k
   unfolding parseTerm andThen
   term-refused k e = rw e
 

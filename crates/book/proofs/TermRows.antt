@@ -10,8 +10,8 @@ use Rattle.model.specs.Limits.{office}
 use Rattle.model.specs.Lists.{concatMap, padded}
 use Rattle.model.specs.Term.{Node, var, app, Book}
 use Rattle.model.specs.Area.{termWords, nodeWords}
-use Rattle.theory.proofs.Lists.{concatMap-append}
-use Rattle.theory.proofs.Rows.{length-padded}
+use Rattle.theory.proofs.Lists.Laws.{concatMap-append}
+use Rattle.theory.proofs.Lists.Rows.{length-padded}
 use Rattle.book.specs.Rows.{rowsLength, bookRows}
 use Rattle.book.specs.Parts.{rowNumbers, Suits}
 

@@ -16,8 +16,8 @@ use Rattle.model.specs.Lists.{all, from, concatMap}
 use Rattle.model.specs.Area.{termWords}
 use Rattle.model.specs.Report.{numberBytes}
 use Rattle.model.specs.BookBytes.{nodeNumbers, bookBytes}
-use Rattle.theory.proofs.Lists.{concatMap-append, all-at, length-from, getD-from}
-use Rattle.theory.proofs.Conjunctions.{and₃}
+use Rattle.theory.proofs.Lists.Laws.{concatMap-append, all-at, length-from, getD-from}
+use Rattle.theory.proofs.Lists.Conjunctions.{and₃}
 use Rattle.book.specs.Rows.{rowsLength, nodeOf, bookOf, encodable}
 use Rattle.book.specs.Encoding.{smallWords, RowFits, runBytes, termBytes, termsBytes}
 use Rattle.book.proofs.Numbers.{numbers-append, numbers-first}

@@ -8,8 +8,8 @@ use lib.Seq.{drop-cons}
 use Rattle.model.specs.Limits.{office}
 use Rattle.model.specs.Lists.{isEmpty}
 use Rattle.model.specs.Term.{Book}
-use Rattle.model.specs.BookBytes.{parsed, refused, andThen, need, parseTerms, parseBook}
-use Rattle.theory.proofs.Opening.{book-positive}
+use Rattle.model.specs.BookBytes.{parsed, unparsed, andThen, need, parseTerms, parseBook}
+use Rattle.theory.proofs.Book.Opening.{book-positive}
 use Rattle.book.specs.declared.parse.Step.{Step}
 use Rattle.book.specs.declared.parse.Step.the-variants.{Next, Refused}
 use Rattle.book.specs.Rows.{bookRows, refusalOf, decodedBook}
@@ -34,17 +34,17 @@ module _ (bytes : List ℕ) where
   unfolding parseBook
   book-parts = up-to-then 1024 4 bytes _
 
-  count-refused : (k : ℕ) → parseBelow 1025 4 bytes ≡ refused k → parseBook office bytes ≡ refused k
+  count-refused : (k : ℕ) → parseBelow 1025 4 bytes ≡ unparsed k → parseBook office bytes ≡ unparsed k
   unfolding andThen
   count-refused k e = book-parts ∙ rw e
 
   module _ (n : ℕ) (rest : List ℕ) (e : parseBelow 1025 4 bytes ≡ parsed n rest) where
-    terms-refused : (k : ℕ) → parseTerms n [] rest ≡ refused k → parseBook office bytes ≡ refused k
+    terms-refused : (k : ℕ) → parseTerms n [] rest ≡ unparsed k → parseBook office bytes ≡ unparsed k
     unfolding andThen
     terms-refused k d = book-parts ∙ rw (e, d)
 
     end-refused : (b : Book) (end : ℕ) → parseTerms n [] rest ≡ parsed b (drop end bytes) → end < length bytes
-        → parseBook office bytes ≡ refused 3
+        → parseBook office bytes ≡ unparsed 3
     unfolding andThen need
     end-refused b end d l = book-parts ∙ rw (e, d, left-some bytes end l)
 
@@ -63,7 +63,7 @@ module _ (bytes rows : List ℕ) where
       ((terms ≡ length (decodedBook (parseBook office bytes))) ×
       (refusal ≡ 0 → rows ≡ bookRows (decodedBook (parseBook office bytes))))
 
-  refused-answer : (k : ℕ) → parseBook office bytes ≡ refused k → Decoded k 0
+  refused-answer : (k : ℕ) → parseBook office bytes ≡ unparsed k → Decoded k 0
   unfolding refusalOf decodedBook
   refused-answer k e = (rw e, (rw e, λ z. absurd (rw (e, z) at (book-positive office bytes))))
 
@@ -72,7 +72,7 @@ module _ (bytes rows : List ℕ) where
   book-answer n b e h = (rw e, (rw e (sym (h .as-many)), λ z. rw e (h .written)))
 
   -- refused at the count, at a term, and at what is left; and a whole book
-  pub refused-count : (k : ℕ) → parseBelow 1025 4 bytes ≡ refused k → Decoded k 0
+  pub refused-count : (k : ℕ) → parseBelow 1025 4 bytes ≡ unparsed k → Decoded k 0
   refused-count k e = refused-answer k (count-refused bytes k e)
 
   module _ (n next : ℕ) (e : parseBelow 1025 4 bytes ≡ parsed n (drop next bytes)) where

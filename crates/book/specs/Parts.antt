@@ -9,7 +9,7 @@ use lib.Seq.{sets}
 use lib.Dec.{eqb, ltb}
 use Rattle.model.specs.Limits.{maxArity, maxSymbol}
 use Rattle.model.specs.Term.{Node, var, app, Book}
-use Rattle.model.specs.BookBytes.{Parsed, parsed, refused, andThen, need, parseNumber, parseArguments}
+use Rattle.model.specs.BookBytes.{Parsed, parsed, unparsed, andThen, need, parseNumber, parseArguments}
 use Rattle.model.specs.Area.{termWords}
 use Rattle.book.specs.Rows.{bookRows}
 use Rattle.book.specs.declared.parse.Part.{Part}
@@ -52,12 +52,12 @@ noted (app s args) counts = set counts s (suc (length args))
 -- The outcome that a reader of a number answers.
 abbrev pub partOf : List ℕ → Part → Parsed ℕ
 partOf bytes (Value n next) = parsed n (drop next bytes)
-partOf bytes (NoPart k) = refused k
+partOf bytes (NoPart k) = unparsed k
 
 -- The outcome p is what a reader answers, and P holds of what was decoded.
 abbrev pub StepOf : {A : Type 0} → List ℕ → Parsed A → (A → Type 0) → Step → Type 0
 StepOf {A} bytes p P (Next next) = (a : A) × (p ≡ parsed a (drop next bytes)) × P a
-StepOf {A} bytes p P (NoStep k) = p ≡ refused k
+StepOf {A} bytes p P (NoStep k) = p ≡ unparsed k
 
 -- The arguments of term t stand in its row, c of them.
 pub record ArgumentsIn (t c : ℕ) (rows rows′ : List ℕ) (args : List ℕ) : Type 0 where

@@ -9,7 +9,7 @@ use Rattle.leb128.specs.Number.{maxNumber}
 use Rattle.model.specs.Limits.{office, maxArity}
 use Rattle.model.specs.Lists.{all, from, concatMap, padded}
 use Rattle.model.specs.Term.{Node, var, app, Book}
-use Rattle.model.specs.BookBytes.{Parsed, parsed, refused}
+use Rattle.model.specs.BookBytes.{Parsed, parsed, unparsed}
 use Rattle.model.specs.Area.{termWords, nodeWords}
 
 -- The words of all term rows of an office's area.
@@ -38,8 +38,8 @@ encodable rows n =
 -- Decoding's refusal, 0 where there is none, and the book, the empty one where there is a refusal.
 unfoldable pub refusalOf : Parsed Book → ℕ
 refusalOf (parsed b rest) = 0
-refusalOf (refused n) = n
+refusalOf (unparsed n) = n
 
 unfoldable pub decodedBook : Parsed Book → Book
 decodedBook (parsed b rest) = b
-decodedBook (refused n) = []
+decodedBook (unparsed n) = []

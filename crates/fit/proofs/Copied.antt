@@ -12,8 +12,8 @@ use Rattle.model.specs.Limits.{office}
 use Rattle.model.specs.Term.{Node, Book}
 use Rattle.model.specs.BookBytes.{parseBook, bookBytes}
 use Rattle.model.specs.Call.{Outcome, refuse, accept, over}
-use Rattle.theory.proofs.Facts.{Formed}
-use Rattle.theory.proofs.BookRound.{parsed-formed}
+use Rattle.theory.proofs.Soundness.Facts.{Formed}
+use Rattle.theory.proofs.Book.Round.{parsed-formed}
 use Rattle.book.specs.Rows.{rowsLength, bookRows, bookOf, encodable, refusalOf, decodedBook}
 use Rattle.book.proofs.RowsBook.{rows-book, rows-encodable, book-bytes}
 use Rattle.fit.specs.Offered.{callCopy}

@@ -11,11 +11,11 @@ use Rattle.model.specs.Limits.{office}
 use Rattle.model.specs.Lists.{concatMap}
 use Rattle.model.specs.Term.{Book}
 use Rattle.model.specs.Step.{opened}
-use Rattle.model.specs.BookBytes.{Parsed, parsed, refused, parseBook, bookBytes}
+use Rattle.model.specs.BookBytes.{Parsed, parsed, unparsed, parseBook, bookBytes}
 use Rattle.model.specs.Area.{wordSize, toBytes, areaLength, areaBytes}
 use Rattle.model.specs.Call.{Outcome, refuse, accept, guard, over, emit, openParsed, callOpen}
-use Rattle.theory.proofs.BookRound.{parsed-formed}
-use Rattle.theory.proofs.Opening.{Positive, book-positive}
+use Rattle.theory.proofs.Book.Round.{parsed-formed}
+use Rattle.theory.proofs.Book.Opening.{Positive, book-positive}
 use Rattle.book.specs.Rows.{bookRows, refusalOf, decodedBook}
 use Rattle.fit.specs.Opened.{openedWords}
 use Rattle.fit.specs.Offered.{neededLength, copyParsed, callCopy}
@@ -71,16 +71,16 @@ decoded bytes h = go (parseBook office bytes) (book-positive office bytes) h
   where
     go : (p : Parsed Book) → Positive p → refusalOf p ≡ 0 → (rest : List ℕ) × (p ≡ parsed (decodedBook p) rest)
     go (parsed b rest) h g = (rest, refl)
-    go (refused n) h g = absurd (rw g at h)
+    go (unparsed n) h g = absurd (rw g at h)
 
 -- with a refusal it is that refusal
-pub not-decoded : (bytes : List ℕ) → (refusalOf (parseBook office bytes) ≡ 0 → ⊥) → parseBook office bytes ≡ refused (refusalOf (parseBook office bytes))
+pub not-decoded : (bytes : List ℕ) → (refusalOf (parseBook office bytes) ≡ 0 → ⊥) → parseBook office bytes ≡ unparsed (refusalOf (parseBook office bytes))
 unfolding refusalOf
 not-decoded bytes h = go (parseBook office bytes) h
   where
-    go : (p : Parsed Book) → (refusalOf p ≡ 0 → ⊥) → p ≡ refused (refusalOf p)
+    go : (p : Parsed Book) → (refusalOf p ≡ 0 → ⊥) → p ≡ unparsed (refusalOf p)
     go (parsed b rest) h = absurd (h refl)
-    go (refused n) h = refl
+    go (unparsed n) h = refl
 
 -- OPENING.
 module _ (capacity : ℕ) (book area : List ℕ) where

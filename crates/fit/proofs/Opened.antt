@@ -14,8 +14,8 @@ use Rattle.model.specs.Term.{Node, Book}
 use Rattle.model.specs.Step.{opened}
 use Rattle.model.specs.Area.{wordSize, termWords, entryRowWords, toBytes, nodeWords, bindingWord, areaWords, areaBytes, areaLength}
 use Rattle.model.specs.Call.{over}
-use Rattle.theory.proofs.Lists.{concatMap-append}
-use Rattle.theory.proofs.Words.{length-words}
+use Rattle.theory.proofs.Lists.Laws.{concatMap-append}
+use Rattle.theory.proofs.Area.Words.{length-words}
 use Rattle.words.specs.Words.{laid, cleared}
 use Rattle.fit.specs.Opened.{openedWords}
 

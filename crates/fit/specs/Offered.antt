@@ -5,7 +5,7 @@ use Prim.Native.Nat.{ℕ}
 use lib.Dec.{leb}
 use Rattle.model.specs.Limits.{office}
 use Rattle.model.specs.Term.{Book}
-use Rattle.model.specs.BookBytes.{Parsed, parsed, refused, parseBook, bookBytes}
+use Rattle.model.specs.BookBytes.{Parsed, parsed, unparsed, parseBook, bookBytes}
 use Rattle.model.specs.Area.{areaLength}
 use Rattle.model.specs.Call.{Outcome, refuse, emit}
 
@@ -15,7 +15,7 @@ neededLength capacity = cond (leb 1 capacity && leb capacity (office .maxCapacit
 
 unfoldable pub copyParsed : List ℕ → Parsed Book → Outcome
 copyParsed out (parsed b rest) = emit (bookBytes b) [] out
-copyParsed out (refused n) = refuse 1 n [] out
+copyParsed out (unparsed n) = refuse 1 n [] out
 
 -- A book read and written back, with no area: refusals 1 to 6, then 13. It answers the number of bytes written.
 unfoldable pub callCopy : List ℕ → List ℕ → Outcome

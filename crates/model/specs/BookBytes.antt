@@ -14,21 +14,21 @@ use Rattle.model.specs.Report.{numberBytes}
 -- What was decoded and the bytes after it, or a refusal.
 pub data Parsed (A : Type 0) : Type 0 where
   parsed : A → List ℕ → Parsed A
-  refused : ℕ → Parsed A
+  unparsed : ℕ → Parsed A
 
 unfoldable pub andThen : {A B : Type 0} → Parsed A → (A → List ℕ → Parsed B) → Parsed B
 andThen (parsed a rest) f = f a rest
-andThen (refused n) f = refused n
+andThen (unparsed n) f = unparsed n
 
 -- What follows where the test holds, else refusal n.
 unfoldable pub need : {A : Type 0} → Bool → ℕ → Parsed A → Parsed A
 need true n p = p
-need false n p = refused n
+need false n p = unparsed n
 
 unfoldable pub fromRead : Read → Parsed ℕ
 fromRead (number n rest) = parsed n rest
-fromRead cut = refused 1
-fromRead invalid = refused 2
+fromRead cut = unparsed 1
+fromRead invalid = unparsed 2
 
 -- One number: refusals 1 and 2.
 unfoldable pub parseNumber : List ℕ → Parsed ℕ

@@ -43,7 +43,7 @@ emit new area out =
 module _ (lim : Limits) where
   unfoldable pub openParsed : ℕ → List ℕ → Parsed Book → Outcome
   openParsed capacity area (parsed b rest) = accept [] (over (areaBytes lim (opened b capacity)) area) []
-  openParsed capacity area (Parsed.refused n) = refuse 0 n area []
+  openParsed capacity area (Parsed.unparsed n) = refuse 0 n area []
 
   -- Opening: 4 for the capacity, 7 for the length, then the book. It answers no numbers.
   unfoldable pub callOpen : ℕ → List ℕ → List ℕ → Outcome

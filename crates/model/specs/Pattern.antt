@@ -6,11 +6,11 @@ use Rattle.model.specs.Term.{Tree, node, Trees, nil, more, val}
 use Rattle.model.specs.Table.{Kind, hole, common, Entry, Table, entry}
 use Rattle.model.specs.Step.{State}
 
--- A pattern: a term over symbols and numbered open places.
+-- A pattern: a term over symbols and numbered open places. An open place is the field's generalization variable.
 mutual
   pub data Pattern : Type 0 where
-    place : ℕ → Pattern
-    over : ℕ → Patterns → Pattern
+    variable : ℕ → Pattern
+    apply : ℕ → Patterns → Pattern
 
   pub data Patterns : Type 0 where
     end : Patterns
@@ -20,8 +20,8 @@ mutual
 module _ (σ : ℕ → Tree) where
   unfoldable mutual
     pub fill : Pattern → Tree
-    fill (place x) = σ x
-    fill (over s ps) = node s (fillAll ps)
+    fill (variable x) = σ x
+    fill (apply s ps) = node s (fillAll ps)
 
     pub fillAll : Patterns → Trees
     fillAll end = nil
@@ -31,8 +31,8 @@ module _ (σ : ℕ → Tree) where
 module _ (θ : ℕ → Pattern) where
   unfoldable mutual
     pub refine : Pattern → Pattern
-    refine (place x) = θ x
-    refine (over s ps) = over s (refineAll ps)
+    refine (variable x) = θ x
+    refine (apply s ps) = apply s (refineAll ps)
 
     pub refineAll : Patterns → Patterns
     refineAll end = end
@@ -44,12 +44,12 @@ patterns f (i ∷ is) = then (f i) (patterns f is)
 
 -- A hole reads as the open place of its class, a common entry as its symbol over its arguments' readings, `below`.
 unfoldable pub readingStep : (ℕ → Pattern) → Entry → Kind → Pattern
-readingStep below e hole = place (e .sameAs)
-readingStep below e (common s args) = over s (patterns below args)
+readingStep below e hole = variable (e .sameAs)
+readingStep below e (common s args) = apply s (patterns below args)
 
 -- The reading of entry i, k steps deep.
 unfoldable pub reading : Table → ℕ → ℕ → Pattern
-reading es zero i = place (entry es i .sameAs)
+reading es zero i = variable (entry es i .sameAs)
 reading es (suc k) i = readingStep (reading es k) (entry es i) (entry es i .kind)
 
 module _ (s : State) where

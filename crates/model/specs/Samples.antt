@@ -204,7 +204,7 @@ answers s (ask n ∷ qs) = cond (leb (length (reportBytes s)) n) (0 ∷ reportBy
 
 unfoldable pub answersOf : ℕ → List Query → Parsed Term.Book → List (List ℕ)
 answersOf capacity qs (parsed b rest) = (0 ∷ []) ∷ answers (opened b capacity) qs
-answersOf capacity qs (Parsed.refused n) = (n ∷ []) ∷ []
+answersOf capacity qs (Parsed.unparsed n) = (n ∷ []) ∷ []
 
 unfoldable pub onStates : Sample → List (List ℕ)
 onStates s = answersOf (s .capacity) (queries s) (parseBook office (s .book))
@@ -235,7 +235,7 @@ badBooks =
 
 unfoldable pub refusalOf : Parsed Term.Book → ℕ
 refusalOf (parsed b rest) = 0
-refusalOf (Parsed.refused n) = n
+refusalOf (Parsed.unparsed n) = n
 
 pub bad-books : map (λ (bytes : List ℕ). refusalOf (parseBook office bytes)) badBooks ≡ 1 ∷ 2 ∷ 3 ∷ 4 ∷ 5 ∷ 6 ∷ []
 unfolding computation refusalOf

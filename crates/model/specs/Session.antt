@@ -18,7 +18,7 @@ Printed = List (List ℕ)
 -- What follows a number; where there is none, its refusal is printed and the session ends.
 unfoldable pub orStop : Parsed ℕ → (ℕ → List ℕ → Printed) → Printed
 orStop (parsed n rest) next = next n rest
-orStop (Parsed.refused n) next = (n ∷ []) ∷ []
+orStop (Parsed.unparsed n) next = (n ∷ []) ∷ []
 
 -- An answer's line, then the session with the state after it: a refused step leaves the state and does not end the session.
 unfoldable pub answered : State → Answer → (State → Printed) → Printed
@@ -43,7 +43,7 @@ steps (suc k) s (x ∷ xs) = orStop (parseNumber (x ∷ xs)) (step (steps k) s)
 
 unfoldable pub begin : Parsed Book → List ℕ → Printed
 begin (parsed b rest) bytes = (0 ∷ []) ∷ steps (length bytes) (opened b sessionCapacity) bytes
-begin (Parsed.refused n) bytes = (n ∷ []) ∷ []
+begin (Parsed.unparsed n) bytes = (n ∷ []) ∷ []
 
 -- The book of the length read, and the steps after it; 1 where that length runs past the end.
 unfoldable pub withLength : ℕ → List ℕ → Printed

@@ -25,23 +25,23 @@ use Rattle.theory.specs.Choice.{Chosen}
 use Rattle.theory.specs.Demand2.{Rebuilds, Least, LinesReadBack, WrittenBack, Demand2}
 use Rattle.theory.specs.Demand3.{SameReport, WholeList, Demand3, ChoiceOnAreas}
 use Rattle.theory.specs.Run.{Request, fix, ask, isLine, isChoice, call, run}
-use Rattle.theory.proofs.Lists.{and-left, and-right, and-both, T-true, true-T}
-use Rattle.theory.proofs.Facts.{Formed, Acyclic, SoundFacts}
-use Rattle.theory.proofs.Values.{ends-more, value-more, val-free, val-bound, val-app, name-least, val-name, same-value-name, same-name-value}
-use Rattle.theory.proofs.Binding.{ends-at-length, bound-formed, bound-acyclic, bound-value, bound-equal, bound-deref}
-use Rattle.theory.proofs.SoundTerms.{formed-facts, facts-formed, acyclic-facts, facts-acyclic}
-use Rattle.theory.proofs.Sound.{sound-facts, facts-sound}
-use Rattle.theory.proofs.Steps.{bound, bound-sound, choice, table-size}
-use Rattle.theory.proofs.AreaBytes.{over-carries}
-use Rattle.theory.proofs.Reading.{fill-left, fill-right, fill-lines-left, fill-lines-right, least-lines}
-use Rattle.theory.proofs.ReportValues.{report-of-values}
-use Rattle.theory.proofs.BookRound.{written-back}
-use Rattle.theory.proofs.RunStates.{Numbered, refusal-zero, stateRun, acceptedIn, answer-numbered, run-book}
-use Rattle.theory.proofs.RunLines.{lines-left, lines-right}
-use Rattle.theory.proofs.Simulation.{Lives, call-on, not-seven, sound-lives, lives-state, lives-sound, call-lives, follows, run-lives, accepted-lives, none-refused}
-use Rattle.theory.proofs.Again.{ended-lines, again-accepted, same-reports}
-use Rattle.theory.proofs.Opening.{Opens, opens}
-use Rattle.theory.proofs.StepsAlone.{alone}
+use Rattle.theory.proofs.Lists.Laws.{and-left, and-right, and-both, T-true, true-T}
+use Rattle.theory.proofs.Soundness.Facts.{Formed, Acyclic, SoundFacts}
+use Rattle.theory.proofs.Values.Equations.{ends-more, value-more, val-free, val-bound, val-app, name-least, val-name, same-value-name, same-name-value}
+use Rattle.theory.proofs.Values.Binding.{ends-at-length, bound-formed, bound-acyclic, bound-value, bound-equal, bound-deref}
+use Rattle.theory.proofs.Soundness.Terms.{formed-facts, facts-formed, acyclic-facts, facts-acyclic}
+use Rattle.theory.proofs.Soundness.Test.{sound-facts, facts-sound}
+use Rattle.theory.proofs.Steps.Kept.{bound, bound-sound, choice, table-size}
+use Rattle.theory.proofs.Area.Bytes.{over-carries}
+use Rattle.theory.proofs.Patterns.Lines.{fill-left, fill-right, fill-lines-left, fill-lines-right, least-lines}
+use Rattle.theory.proofs.Report.Values.{report-of-values}
+use Rattle.theory.proofs.Book.Round.{written-back}
+use Rattle.theory.proofs.Runs.States.{Numbered, refusal-zero, stateRun, acceptedIn, answer-numbered, run-book}
+use Rattle.theory.proofs.Runs.Lines.{lines-left, lines-right}
+use Rattle.theory.proofs.Runs.Simulation.{Lives, call-on, not-seven, sound-lives, lives-state, lives-sound, call-lives, follows, run-lives, accepted-lives, none-refused}
+use Rattle.theory.proofs.Runs.Again.{ended-lines, again-accepted, same-reports}
+use Rattle.theory.proofs.Book.Opening.{Opens, opens}
+use Rattle.theory.proofs.Runs.Alone.{alone}
 
 -- The office's limits are within themselves, so every theorem over `Modest` limits holds of them.
 pub office-modest : Modest office

@@ -8,7 +8,7 @@ use lib.ListN.{length, getD, take, drop, length-drop}
 use lib.Seq.{length-take-le, getD-take, getD-drop}
 use Rattle.model.specs.Lists.{from}
 use Rattle.model.specs.Area.{toBytes, fromBytes}
-use Rattle.theory.proofs.Rows.{map-from}
+use Rattle.theory.proofs.Lists.Rows.{map-from}
 
 -- the elements of a list of n, one by one
 pub every : (l : List ℕ) (n : ℕ) → length l ≡ n → map (λ j. getD l j 0) (from 0 n) ≡ l

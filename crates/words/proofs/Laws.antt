@@ -12,10 +12,10 @@ use Rattle.model.specs.Area.{wordSize, toBytes, fromBytes, word, wordsAt}
 use Rattle.words.specs.Words.{laid}
 use Rattle.words.specs.Laws.{WordFromItsBytes, BytesOfTheirWord, LoadsWhatIsStored, StoresWhatIsLoaded}
 use Rattle.words.proofs.Runs.{length-wordsAt}
-use Rattle.theory.proofs.Lists.{and-left, and-right}
-use Rattle.theory.proofs.AreBytes.{bytes-drop, bytes-take}
-use Rattle.theory.proofs.Rows.{map-from, drop-behind, below-all}
-use Rattle.theory.proofs.Words.{word-bytes, word-at}
+use Rattle.theory.proofs.Lists.Laws.{and-left, and-right}
+use Rattle.theory.proofs.Lists.AreBytes.{bytes-drop, bytes-take}
+use Rattle.theory.proofs.Lists.Rows.{map-from, drop-behind, below-all}
+use Rattle.theory.proofs.Area.Words.{word-bytes, word-at}
 
 -- a word is read from its bytes
 pub word-from-its-bytes : WordFromItsBytes

@@ -10,9 +10,9 @@ use lib.Seq.{sets, sets-eq, set-at, take-at, take-suc, drop-cons, drop-drop, dro
 use Rattle.model.specs.Lists.{from, concatMap}
 use Rattle.model.specs.Area.{wordSize, toBytes, word, wordsAt}
 use Rattle.words.specs.Words.{laid, cleared}
-use Rattle.theory.proofs.Lists.{length-from, concatMap-append}
-use Rattle.theory.proofs.Rows.{drop-behind}
-use Rattle.theory.proofs.Words.{length-toBytes, length-words}
+use Rattle.theory.proofs.Lists.Laws.{length-from, concatMap-append}
+use Rattle.theory.proofs.Lists.Rows.{drop-behind}
+use Rattle.theory.proofs.Area.Words.{length-toBytes, length-words}
 
 -- one store behind a first list
 set-more : (p l : List ℕ) (i x : ℕ) → length p ≡ i → i < length l → set (p ++ drop i l) i x ≡ p ++ x ∷ [] ++ drop (i + 1) l

@@ -11,7 +11,7 @@ use Rattle.model.specs.Area.{wordSize, toBytes, areaLength}
 use Rattle.model.specs.Call.{refuse, accept, over}
 use Rattle.model.specs.BookBytes.{parseBook}
 use Rattle.book.specs.Rows.{bookRows, decodedBook}
-use Rattle.theory.proofs.BookRound.{parsed-formed}
+use Rattle.theory.proofs.Book.Round.{parsed-formed}
 use Rattle.book.proofs.RowsBook.{rows-length}
 use Rattle.fit.specs.Opened.{openedWords}
 use Rattle.fit.proofs.OpenCases.{inRange, decoded, length-of, none-out-of-range, some-in-range, open-four, open-seven, open-refused, open-accepted}

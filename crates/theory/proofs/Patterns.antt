@@ -1,0 +1,3 @@
+pub mod Lgg
+pub mod Entry
+pub mod Lines

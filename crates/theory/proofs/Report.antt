@@ -1,0 +1,4 @@
+pub mod Matching
+pub mod Meeting
+pub mod Pair
+pub mod Values

@@ -1,0 +1,6 @@
+pub mod Fits
+pub mod States
+pub mod Simulation
+pub mod Lines
+pub mod Again
+pub mod Alone

@@ -1,0 +1,4 @@
+pub mod Facts
+pub mod Terms
+pub mod Table
+pub mod Test

@@ -1,0 +1,6 @@
+pub mod Search
+pub mod Place
+pub mod WalkEntries
+pub mod WalkInvariant
+pub mod WalkRight
+pub mod Size

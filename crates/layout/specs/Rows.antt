@@ -1,0 +1,65 @@
+-- What rows of words hold: the terms, the bindings and the entries of a state that is loaded into arrays, one array for each
+-- kind of row (docs/LAYOUT.md). Assumes nothing: these are definitions.
+use mathlib.Core.List.{List, map}
+use mathlib.Core.Bool.{cond}
+use mathlib.Core.Option.{Option, none, some}
+use Prim.Native.Nat.{ℕ, _+_, _*_, _-_}
+use lib.ListN.{getD, take, drop}
+use lib.Dec.{eqb}
+use Rattle.model.specs.Lists.{from}
+use Rattle.model.specs.Term.{Node, var, app, Book, Bindings}
+use Rattle.model.specs.Table.{Kind, hole, common, Entry, Table}
+use Rattle.model.specs.Step.{State}
+use Rattle.model.specs.Area.{termWords, entryRowWords}
+
+-- The word at place i; 0 past the end.
+abbrev pub at : List ℕ → ℕ → ℕ
+at words i = getD words i 0
+
+-- The term in row t, and the book in the first n rows.
+unfoldable pub nodeOf : List ℕ → ℕ → Node
+nodeOf rows t =
+    let i = termWords * t in cond (eqb (at rows i) 0) var (app (at rows i - 1) (take (at rows (i + 1)) (drop (i + 2) rows)))
+
+unfoldable pub bookOf : List ℕ → ℕ → Book
+bookOf rows n = map (nodeOf rows) (from 0 n)
+
+-- The binding in word t, and the first n of them.
+unfoldable pub bindingOf : List ℕ → ℕ → Option ℕ
+bindingOf words t = cond (eqb (at words t) 0) none (some (at words t - 1))
+
+unfoldable pub boundOf : List ℕ → ℕ → Bindings
+boundOf words n = map (bindingOf words) (from 0 n)
+
+-- The kind from word i on, the entry in row i, and the table in the first m rows.
+unfoldable pub kindOf : List ℕ → ℕ → Kind
+kindOf rows i = cond (eqb (at rows i) 0) hole (common (at rows (i + 1)) (take (at rows (i + 2)) (drop (i + 3) rows)))
+
+unfoldable pub loadedEntry : List ℕ → ℕ → Entry
+loadedEntry rows i =
+    let j = entryRowWords * i in
+    record { left = at rows j; right = at rows (j + 1); kind = kindOf rows (j + 2); sameAs = at rows (j + entryRowWords - 1) }
+
+unfoldable pub tableOf : List ℕ → ℕ → Table
+tableOf rows m = map (loadedEntry rows) (from 0 m)
+
+-- A state as it is loaded: its numbers, and a list of words for each kind of row, unused places behind the used ones.
+pub record Loaded : Type 0 where
+  pub capacity : ℕ
+  pub terms : ℕ
+  pub entries : ℕ
+  pub lines : ℕ
+  pub termRows : List ℕ
+  pub bindingWords : List ℕ
+  pub lineWords : List ℕ
+  pub entryRows : List ℕ
+
+unfoldable pub loadedState : Loaded → State
+loadedState w =
+    record {
+      book = bookOf (w .termRows) (w .terms);
+      bound = boundOf (w .bindingWords) (w .terms);
+      entries = tableOf (w .entryRows) (w .entries);
+      lines = take (w .lines) (w .lineWords);
+      capacity = w .capacity;
+    }

@@ -11,21 +11,20 @@ use Rattle.leb128.specs.Number.{maxGroups}
 use Rattle.model.specs.Limits.{office}
 use Rattle.model.specs.Term.{Node, Book}
 use Rattle.model.specs.BookBytes.{parseBook, bookBytes}
-use Rattle.model.specs.Call.{Outcome, refuse, accept, over}
+use Rattle.model.specs.Call.{Outcome, refuse, accept, over, callCopy}
 use Rattle.theory.proofs.Soundness.Facts.{Formed}
 use Rattle.theory.proofs.Book.Round.{parsed-formed}
 use Rattle.book.specs.Rows.{rowsLength, bookRows, bookOf, encodable, refusalOf, decodedBook}
 use Rattle.book.proofs.RowsBook.{rows-book, rows-encodable, book-bytes}
-use Rattle.fit.specs.Offered.{callCopy}
 use Rattle.fit.proofs.OpenCases.{decoded, copy-refused, copy-thirteen, copy-accepted}
 
 -- The outcome of the call is this refusal, this number of bytes and this output.
 abbrev pub Copied : List ℕ → List ℕ → ℕ → ℕ → List ℕ → Type 0
 Copied book out refusal written out′ =
-    (refusal ≡ callCopy book out .refusal) × ((written ∷ [] ≡ callCopy book out .numbers) × (out′ ≡ callCopy book out .output))
+    (refusal ≡ callCopy office book out .refusal) × ((written ∷ [] ≡ callCopy office book out .numbers) × (out′ ≡ callCopy office book out .output))
 
 -- the parts of an outcome that is known
-copied : (book out : List ℕ) (o : Outcome) (written : ℕ) → callCopy book out ≡ o → o .numbers ≡ written ∷ []
+copied : (book out : List ℕ) (o : Outcome) (written : ℕ) → callCopy office book out ≡ o → o .numbers ≡ written ∷ []
     → Copied book out (o .refusal) written (o .output)
 copied book out o written e n = (ap (λ o. o .refusal) (sym e), (sym (ap (λ o. o .numbers) e ∙ n), ap (λ o. o .output) (sym e)))
 

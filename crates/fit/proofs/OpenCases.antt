@@ -13,12 +13,12 @@ use Rattle.model.specs.Term.{Book}
 use Rattle.model.specs.Step.{opened}
 use Rattle.model.specs.BookBytes.{Parsed, parsed, unparsed, parseBook, bookBytes}
 use Rattle.model.specs.Area.{wordSize, toBytes, areaLength, areaBytes}
-use Rattle.model.specs.Call.{Outcome, refuse, accept, guard, over, emit, openParsed, callOpen}
+use Rattle.model.specs.Call.{Outcome, refuse, accept, guard, over, emit, openParsed, callOpen, copyParsed, callCopy}
 use Rattle.theory.proofs.Book.Round.{parsed-formed}
 use Rattle.theory.proofs.Book.Opening.{Positive, book-positive}
 use Rattle.book.specs.Rows.{bookRows, refusalOf, decodedBook}
 use Rattle.fit.specs.Opened.{openedWords}
-use Rattle.fit.specs.Offered.{neededLength, copyParsed, callCopy}
+use Rattle.fit.specs.Offered.{neededLength}
 use Rattle.fit.proofs.Opened.{opened-words}
 
 -- THE CAPACITY. Whether it lies in its range, by the outcome of two tests.
@@ -115,21 +115,21 @@ module _ (capacity : ℕ) (book area : List ℕ) where
 
 -- COPYING.
 module _ (book out : List ℕ) where
-  pub copy-refused : (refusalOf (parseBook office book) ≡ 0 → ⊥) → callCopy book out ≡ refuse 1 (refusalOf (parseBook office book)) [] out
+  pub copy-refused : (refusalOf (parseBook office book) ≡ 0 → ⊥) → callCopy office book out ≡ refuse 1 (refusalOf (parseBook office book)) [] out
   unfolding callCopy copyParsed
   copy-refused n = ap (copyParsed out) (not-decoded book n)
 
-  copy-parsed : refusalOf (parseBook office book) ≡ 0 → callCopy book out ≡ emit (bookBytes (decodedBook (parseBook office book))) [] out
+  copy-parsed : refusalOf (parseBook office book) ≡ 0 → callCopy office book out ≡ emit (bookBytes (decodedBook (parseBook office book))) [] out
   unfolding callCopy copyParsed
   copy-parsed z = ap (copyParsed out) (decoded book z .1)
 
   pub copy-thirteen : refusalOf (parseBook office book) ≡ 0 → length out < length (bookBytes (decodedBook (parseBook office book)))
-      → callCopy book out ≡ refuse 1 13 [] out
+      → callCopy office book out ≡ refuse 1 13 [] out
   unfolding emit guard
   copy-thirteen z h = copy-parsed z ∙ rw (lt-leb (length (bookBytes (decodedBook (parseBook office book)))) (length out) h)
 
   pub copy-accepted : refusalOf (parseBook office book) ≡ 0 → length (bookBytes (decodedBook (parseBook office book))) ≤ length out
-      → callCopy book out
+      → callCopy office book out
       ≡ accept (length (bookBytes (decodedBook (parseBook office book))) ∷ []) [] (over (bookBytes (decodedBook (parseBook office book))) out)
   unfolding emit guard
   copy-accepted z h = copy-parsed z ∙ rw (le-leb (length (bookBytes (decodedBook (parseBook office book)))) (length out) h)

@@ -7,9 +7,9 @@ ghost use lib.ListN.{length, getD, replicate};
 ghost use Rattle.model.specs.Limits.{office};
 ghost use Rattle.model.specs.Lists.{concatMap};
 ghost use Rattle.model.specs.Area.{wordSize, toBytes, areaLength};
-ghost use Rattle.model.specs.Call.{over, callOpen};
+ghost use Rattle.model.specs.Call.{over, callOpen, callCopy};
 ghost use Rattle.fit.specs.Opened.{openedWords};
-ghost use Rattle.fit.specs.Offered.{neededLength, callCopy};
+ghost use Rattle.fit.specs.Offered.{neededLength};
 
 // The length in bytes that an area of this capacity needs, 0 for a capacity out of range.
 #[no_mangle]
@@ -70,9 +70,9 @@ fn write_opened(area: &mut [u8], capacity: u32, terms: u32, needed: usize, rows:
 // number of bytes written, 0 on a refusal.
 #[no_mangle]
 pub extern "C" fn fit_copy_book(book: &[u8], out: &mut [u8], written: &mut u32) -> u32
-    ensures refusal { λ r. ⌜ r ≡ callCopy (now (book .entry)) (now (out .entry)) .refusal ⌝ }
-    ensures written { λ r. ⌜ now (written .exit) ∷ [] ≡ callCopy (now (book .entry)) (now (out .entry)) .numbers ⌝ }
-    ensures output { λ r. ⌜ now (out .exit) ≡ callCopy (now (book .entry)) (now (out .entry)) .output ⌝ }
+    ensures refusal { λ r. ⌜ r ≡ callCopy office (now (book .entry)) (now (out .entry)) .refusal ⌝ }
+    ensures written { λ r. ⌜ now (written .exit) ∷ [] ≡ callCopy office (now (book .entry)) (now (out .entry)) .numbers ⌝ }
+    ensures output { λ r. ⌜ now (out .exit) ≡ callCopy office (now (book .entry)) (now (out .entry)) .output ⌝ }
 {
     *written = 0;
     let mut rows = [0u32; 10240];

@@ -40,6 +40,10 @@ unfoldable pub emit : List ℕ → List ℕ → List ℕ → Outcome
 emit new area out =
     guard (leb (length new) (length out)) (refuse 1 13 area out) (accept (length new ∷ []) area (over new out))
 
+unfoldable pub copyParsed : List ℕ → Parsed Book → Outcome
+copyParsed out (parsed b rest) = emit (bookBytes b) [] out
+copyParsed out (Parsed.unparsed n) = refuse 1 n [] out
+
 module _ (lim : Limits) where
   unfoldable pub openParsed : ℕ → List ℕ → Parsed Book → Outcome
   openParsed capacity area (parsed b rest) = accept [] (over (areaBytes lim (opened b capacity)) area) []
@@ -79,3 +83,7 @@ module _ (lim : Limits) where
   -- Writing a book: 7, 13.
   unfoldable pub callWrite : List ℕ → List ℕ → Outcome
   callWrite area out = guard (sound lim area) (refuse 1 7 area out) (emit (bookBytes (stateOf area lim .book)) area out)
+
+  -- A book read and written back, with no area: the book's refusals, then 13. It answers the number of bytes written.
+  unfoldable pub callCopy : List ℕ → List ℕ → Outcome
+  callCopy book out = copyParsed out (parseBook lim book)

@@ -215,7 +215,7 @@ small = record { maxTerms = 6; maxCapacity = 3; maxLines = 2 }
 
 -- Everything that the samples compute with: who unfolds it unfolds all.
 unfoldable pub computation : Unit {0}
-unfolding Number.write Number.prepend Number.readGroups Number.atMost Number.read Lists.all Lists.first Lists.from Lists.concatMap Lists.pairwise Lists.isEmpty Lists.eqNumbers Lists.padded Term.symbol Term.arguments Term.alike Term.trees Term.valueStep Term.value Term.endsStep Term.ends Term.derefStep Term.deref Term.eqTree Term.eqTrees Term.occurs Term.occursAny Term.acyclic Term.root Term.name Table.isHole Table.holds Table.entryOf Table.place Table.placeAll Table.turn Table.visit Table.walk Table.settle Step.opened Step.require Step.saturate Step.addLine Step.isFree Step.turned Step.bind Report.meet Report.meetAll Report.kindArguments Report.class Report.argumentClasses Report.meetArguments Report.order Report.number Report.kindNumbers Report.entryNumbers Report.report Report.numberBytes Report.reportBytes BookBytes.andThen BookBytes.need BookBytes.fromRead BookBytes.parseNumber BookBytes.arityFits BookBytes.parseArguments BookBytes.parseApp BookBytes.parseNode BookBytes.parseTerms BookBytes.parseBook BookBytes.nodeNumbers BookBytes.bookBytes Area.toBytes Area.fromBytes Area.areaLength Area.nodeWords Area.bindingWord Area.kindWords Area.entryWords Area.areaWords Area.areaBytes Area.word Area.wordsAt Area.nodeAt Area.bindingAt Area.kindAt Area.entryAt Area.stateOf Area.rangesOk Area.nodeOk Area.bindingOk Area.termsOk Area.argumentsOk Area.kindOk Area.entryOk Area.samePair Area.distinct Area.soundState Area.sound Call.refuse Call.accept Call.guard Call.over Call.emit Call.openParsed Call.callOpen Call.stepped Call.callAdd Call.callBind Call.callEntry Call.callReport Call.callWrite Session.orStop Session.answered Session.step Session.steps Session.begin Session.withLength Session.session shown shownReport replies onBytes shownAnswer after answers answersOf onStates
+unfolding Number.write Number.prepend Number.readGroups Number.atMost Number.read Lists.all Lists.first Lists.from Lists.concatMap Lists.pairwise Lists.isEmpty Lists.eqNumbers Lists.padded Term.symbol Term.arguments Term.alike Term.trees Term.valueStep Term.value Term.endsStep Term.ends Term.derefStep Term.deref Term.eqTree Term.eqTrees Term.occurs Term.occursAny Term.acyclic Term.root Term.name Table.isHole Table.holds Table.entryOf Table.place Table.placeAll Table.turn Table.visit Table.walk Table.settle Step.opened Step.require Step.saturate Step.addLine Step.isFree Step.turned Step.bind Report.meet Report.meetAll Report.kindArguments Report.class Report.argumentClasses Report.meetArguments Report.order Report.number Report.kindNumbers Report.entryNumbers Report.report Report.numberBytes Report.reportBytes BookBytes.andThen BookBytes.need BookBytes.fromRead BookBytes.parseNumber BookBytes.arityFits BookBytes.parseArguments BookBytes.parseApp BookBytes.parseNode BookBytes.parseTerms BookBytes.parseBook BookBytes.nodeNumbers BookBytes.bookBytes Area.toBytes Area.fromBytes Area.areaLength Area.nodeWords Area.bindingWord Area.kindWords Area.entryWords Area.areaWords Area.areaBytes Area.word Area.wordsAt Area.nodeAt Area.bindingAt Area.kindAt Area.entryAt Area.stateOf Area.rangesOk Area.nodeOk Area.bindingOk Area.termsOk Area.argumentsOk Area.kindOk Area.entryOk Area.samePair Area.distinct Area.soundState Area.sound Call.refuse Call.accept Call.guard Call.over Call.emit Call.copyParsed Call.openParsed Call.callOpen Call.stepped Call.callAdd Call.callBind Call.callEntry Call.callReport Call.callWrite Call.callCopy Session.orStop Session.answered Session.step Session.steps Session.begin Session.withLength Session.session shown shownReport replies onBytes shownAnswer after answers answersOf onStates
 computation = tt
 
 -- The samples hold of the calls on bytes, with limits that just hold them.

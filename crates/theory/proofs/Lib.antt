@@ -8,4 +8,5 @@ pub mod Report
 pub mod Area
 pub mod Book
 pub mod Runs
+pub mod Refusals
 pub mod Theorems

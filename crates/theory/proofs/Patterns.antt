@@ -1,3 +1,4 @@
 pub mod Lgg
 pub mod Entry
 pub mod Lines
+pub mod Readings

@@ -4,3 +4,4 @@ pub mod Simulation
 pub mod Lines
 pub mod Again
 pub mod Alone
+pub mod LineOnAreas

@@ -4,3 +4,4 @@ pub mod WalkEntries
 pub mod WalkInvariant
 pub mod WalkRight
 pub mod Size
+pub mod WalkLength

@@ -1,67 +1,64 @@
--- The top statements of specs/, one theorem for each. Assumes nothing.
-use mathlib.Core.Path.{_≡_, refl, sym, _∙_, subst}
+-- The top statements of specs/, one theorem for each; those that stand by themselves are passed on from their files. Assumes
+-- nothing.
+use mathlib.Core.Path.{_≡_, refl, ap, sym, _∙_, subst}
 use mathlib.Core.List.{List, [], _∷_, _++_}
-use mathlib.Core.Bool.{Bool, true, false, _&&_}
+use mathlib.Core.Bool.{Bool, true, false}
 use mathlib.Core.Option.{some}
 use Prim.Native.Nat.{ℕ, _≤_}
 use lib.ListN.{length, set, take}
 use lib.Seq.{take-append-seam}
 use lib.Dec.{T, eqb, ltb, leb, eqb→eq}
 use native.Mathlib.Omega.{arith}
-use borrow.Author.Tests.{eq-eqb, eqb-false}
+use borrow.Author.Tests.{eqb-false}
 use Rattle.model.specs.Limits.{Limits, office}
-use Rattle.model.specs.Term.{Book, Bindings}
+use Rattle.model.specs.Term.{Book}
 use Rattle.model.specs.Step.{State, Answer, refused, accepted, bind, opened}
 use Rattle.model.specs.Report.{report, reportBytes, numberBytes}
-use Rattle.model.specs.Area.{areaLength, areaBytes, termsOk, sound, stateOf}
-use Rattle.model.specs.BookBytes.{bookBytes}
-use Rattle.model.specs.Call.{Outcome, refuse, accept, guard, over, emit, stepped, callOpen, callBind, callEntry, callReport, callWrite}
+use Rattle.model.specs.Area.{areaLength, areaBytes, sound, stateOf}
+use Rattle.model.specs.BookBytes.{parsed, bookBytes}
+use Rattle.model.specs.Call.{Outcome, refuse, accept, guard, over, emit, copyParsed, stepped, callOpen, callBind, callEntry, callReport, callWrite, callCopy}
 use Rattle.theory.specs.Modest.{Modest}
-use Rattle.theory.specs.Values.{proper, FuelIsEnough, EndsAtLength, ValuesAsWritten, NamesAreLowest}
+use Rattle.theory.specs.Values.{FuelIsEnough, EndsAtLength, ValuesAsWritten, NamesAreLowest}
 use Rattle.theory.specs.Binding.{BindingPutsValues}
 use Rattle.theory.specs.Soundness.{BytesReadBack, OpeningIsSound, CallsKeepSound, NeverSeven, TableSize}
 use Rattle.theory.specs.ReportOfValues.{ReportOfValues}
 use Rattle.theory.specs.Choice.{Chosen}
-use Rattle.theory.specs.Demand2.{Rebuilds, Least, LinesReadBack, WrittenBack, Demand2}
+use Rattle.theory.specs.Demand2.{Rebuilds, Least, LinesReadBack, WrittenBack, CopiedBack, Demand2}
 use Rattle.theory.specs.Demand3.{SameReport, WholeList, Demand3, ChoiceOnAreas}
-use Rattle.theory.specs.Run.{Request, fix, ask, isLine, isChoice, call, run}
-use Rattle.theory.proofs.Lists.Laws.{and-left, and-right, and-both, T-true, true-T}
-use Rattle.theory.proofs.Soundness.Facts.{Formed, Acyclic, SoundFacts}
+use Rattle.theory.specs.Run.{Request, fix, ask, isLine, isChoice, isStep, acceptedOf, call, run, stateRun}
+use Rattle.theory.proofs.Lists.Laws.{and-left, and-right, T-true, true-T}
+use Rattle.theory.proofs.Soundness.Facts.{SoundFacts}
 use Rattle.theory.proofs.Values.Equations.{ends-more, value-more, val-free, val-bound, val-app, name-least, val-name, same-value-name, same-name-value}
 use Rattle.theory.proofs.Values.Binding.{ends-at-length, bound-formed, bound-acyclic, bound-value, bound-equal, bound-deref}
-use Rattle.theory.proofs.Soundness.Terms.{formed-facts, facts-formed, acyclic-facts, facts-acyclic}
+use Rattle.theory.proofs.Soundness.Terms.{formed-facts, facts-acyclic}
 use Rattle.theory.proofs.Soundness.Test.{sound-facts, facts-sound}
+use Rattle.theory.proofs.Soundness.Proper.{proper-facts, facts-proper}
 use Rattle.theory.proofs.Steps.Kept.{bound, bound-sound, choice, table-size}
 use Rattle.theory.proofs.Area.Bytes.{over-carries}
 use Rattle.theory.proofs.Patterns.Lines.{fill-left, fill-right, fill-lines-left, fill-lines-right, least-lines}
 use Rattle.theory.proofs.Report.Values.{report-of-values}
-use Rattle.theory.proofs.Book.Round.{written-back}
-use Rattle.theory.proofs.Runs.States.{Numbered, refusal-zero, stateRun, acceptedIn, answer-numbered, run-book}
+use Rattle.theory.proofs.Book.Round.{parsed-whole, written-back}
+use Rattle.theory.proofs.Runs.States.{Numbered, refusal-zero, acceptedIn, answer-numbered, run-book}
 use Rattle.theory.proofs.Runs.Lines.{lines-left, lines-right}
-use Rattle.theory.proofs.Runs.Simulation.{Lives, call-on, not-seven, sound-lives, lives-state, lives-sound, call-lives, follows, run-lives, accepted-lives, none-refused}
+use Rattle.theory.proofs.Runs.Simulation.{Lives, call-on, not-seven, sound-lives, lives-state, lives-sound, call-lives, follows, run-lives, accepted-lives, none-refused, all-accepted}
 use Rattle.theory.proofs.Runs.Again.{ended-lines, again-accepted, same-reports}
 use Rattle.theory.proofs.Book.Opening.{Opens, opens}
 use Rattle.theory.proofs.Runs.Alone.{alone}
+pub use Rattle.theory.proofs.Values.StandsFor.{stands-for-as-written}
+pub use Rattle.theory.proofs.Table.WalkLength.{walk-long-enough}
+pub use Rattle.theory.proofs.Steps.Eleven.{eleven-of-line, eleven-of-choice}
+pub use Rattle.theory.proofs.Steps.Line.{line}
+pub use Rattle.theory.proofs.Patterns.Readings.{readings-as-written}
+pub use Rattle.theory.proofs.Report.Numbering.{numbering-as-written}
+pub use Rattle.theory.proofs.Runs.LineOnAreas.{line-on-areas}
+pub use Rattle.theory.proofs.Refusals.Deciding.{one-number}
+pub use Rattle.theory.proofs.Refusals.Calls.{demand-1}
 
 -- The office's limits are within themselves, so every theorem over `Modest` limits holds of them.
 pub office-modest : Modest office
 office-modest = record { terms = omega arith; capacity = omega arith; lines = omega arith }
 
--- VALUES. What `proper` says.
-proper-facts : (b : Book) (β : Bindings) → T (proper b β) → Formed b β × Acyclic b β
-unfolding proper
-proper-facts b β h =
-    let terms : T (eqb (length β) (length b) && termsOk b β) = and-left (eqb (length β) (length b) && termsOk b β) _ h in (
-      formed-facts b β (eqb→eq _ _ (and-left (eqb (length β) (length b)) _ terms)) (and-right (eqb (length β) (length b)) _ terms),
-      acyclic-facts b β (and-right (eqb (length β) (length b) && termsOk b β) _ h),
-    )
-
-facts-proper : (b : Book) (β : Bindings) → Formed b β → Acyclic b β → T (proper b β)
-unfolding proper
-facts-proper b β f a =
-    and-both (eqb (length β) (length b) && termsOk b β) _
-    (and-both (eqb (length β) (length b)) _ (true-T _ (eq-eqb _ _ (f .same-length))) (facts-formed b β f)) (facts-acyclic b β a)
-
+-- VALUES.
 pub fuel-is-enough : FuelIsEnough
 fuel-is-enough b β k j t h e = (ends-more b β k j t h e, value-more b β k j t h e)
 
@@ -172,8 +169,20 @@ book-written lim modest capacity book area bytes h calls out =
     let v = run-lives lim modest start _ calls (o .lives) in
     rw (lives-sound lim modest (stateRun lim start calls) _ v, lives-state lim modest (stateRun lim start calls) _ v, run-book lim start calls (o .lives .facts), written-back lim book (o .terms) (o .rest) bytes (o .parses))
 
+-- bytes that parse, read and written back with no area
+copied-back : CopiedBack
+unfolding callCopy copyParsed
+copied-back lim book bytes b rest e out = rw (e, written-back lim book b rest bytes e)
+
 pub demand-2 : Demand2
-demand-2 = record { rebuilds = rebuilds; least = least; lines-read-back = lines-read-back; written-back = book-written }
+demand-2 =
+    record {
+      rebuilds = rebuilds;
+      least = least;
+      lines-read-back = lines-read-back;
+      written-back = book-written;
+      copied-back = copied-back;
+    }
 
 -- DEMAND 3. An accepted choice on an area that carries a state.
 chosen-at : (lim : Limits) → Modest lim → (s : State) (area : List ℕ) (v t : ℕ) → Lives lim s area → (a : Answer) → bind s v t ≡ a
@@ -240,14 +249,21 @@ same-report lim modest s₁ s₂ area₁ area₂ out₁ out₂ v₁ v₂ h e =
 
 -- on two areas that carry the book just opened
 whole-list : (lim : Limits) → Modest lim → (b : Book) (c : ℕ) (opened₁ opened₂ : List ℕ) → Lives lim (opened b c) opened₁
-    → Lives lim (opened b c) opened₂ → (calls : List Request) → WholeList lim opened₁ opened₂ calls
+    → Lives lim (opened b c) opened₂ → (calls : List Request) → WholeList lim b c opened₁ opened₂ calls
+unfolding call
 whole-list lim modest b c opened₁ opened₂ v₁ v₂ calls =
     let start = opened b c in
     let again = acceptedIn lim isChoice start calls ++ acceptedIn lim isLine start calls in
+    let steps = acceptedOf lim isStep opened₁ calls in
+    let ruled : Lives lim (stateRun lim start steps) (run lim opened₁ calls) =
+    rw (alone lim opened₁ calls .same-area) (run-lives lim modest start opened₁ steps v₁) in
     record {
       stays-sound = true-T _ (lives-sound lim modest (stateRun lim start calls) _ (run-lives lim modest start opened₁ calls v₁));
       steps-alone = alone lim opened₁ calls .same-area;
       steps-accepted = alone lim opened₁ calls .none-refused;
+      rules-accept = all-accepted lim modest start opened₁ steps v₁ (alone lim opened₁ calls .none-refused);
+      by-the-rules = lives-state lim modest (stateRun lim start steps) _ ruled;
+      rules-report = λ out. call-lives lim modest (stateRun lim start steps) _ (ask out) ruled;
       again-accepted =
           rw (accepted-lives lim modest isChoice start opened₁ calls v₁, accepted-lives lim modest isLine start opened₁ calls v₁)
           (none-refused lim modest start opened₂ again v₂ (again-accepted lim b c (v₁ .facts) calls));
@@ -269,4 +285,8 @@ pub demand-3 : Demand3
 demand-3 lim modest capacity book area₁ area₂ h₁ h₂ calls =
     let o₁ = opens lim capacity book area₁ h₁ in
     let o₂ = opens lim capacity book area₂ h₂ in
-    whole-list lim modest (o₁ .terms) capacity _ _ (o₁ .lives) (rw (one-book lim capacity book _ _ o₁ o₂) at (o₂ .lives)) calls
+    let nothing-left : o₁ .rest ≡ [] = parsed-whole lim book (o₁ .terms) (o₁ .rest) (o₁ .parses) in (
+      o₁ .terms,
+      o₁ .parses ∙ ap (parsed (o₁ .terms)) nothing-left,
+      whole-list lim modest (o₁ .terms) capacity _ _ (o₁ .lives) (rw (one-book lim capacity book _ _ o₁ o₂) at (o₂ .lives)) calls,
+    )

@@ -3,3 +3,4 @@ pub mod Ends
 pub mod Put
 pub mod Binding
 pub mod Heights
+pub mod StandsFor

@@ -1,15 +1,16 @@
 -- Demand 2: lines as terms, least, and the book's bytes (document 01, "Lines as terms" and "Bytes"). Statements only.
 use mathlib.Core.Path.{_≡_}
-use mathlib.Core.List.{List, map}
+use mathlib.Core.List.{List, [], map}
 use Prim.Native.Nat.{ℕ, _<_}
 use lib.ListN.{length}
 use lib.Dec.{T}
 use Rattle.leb128.specs.Laws.{areBytes}
 use Rattle.model.specs.Limits.{Limits}
-use Rattle.model.specs.Term.{Tree, val}
+use Rattle.model.specs.Term.{Book, Tree, val}
 use Rattle.model.specs.Pattern.{Pattern, fill, refine, entryReading, leftValue, rightValue, lineReadings}
+use Rattle.model.specs.BookBytes.{parsed, parseBook}
 use Rattle.model.specs.Area.{sound, stateOf}
-use Rattle.model.specs.Call.{callOpen, callWrite, emit}
+use Rattle.model.specs.Call.{callOpen, callWrite, callCopy, emit}
 use Rattle.theory.specs.Modest.{Modest}
 use Rattle.theory.specs.Run.{Request, isLine, leftTerm, rightTerm, run, acceptedOf}
 
@@ -46,8 +47,14 @@ WrittenBack = (lim : Limits) → Modest lim → (capacity : ℕ) (book area : Li
     → let after = run lim (callOpen lim capacity book area .area) calls in
     callWrite lim after out ≡ emit book after out
 
+-- Bytes that parse, read and written back with no area, are those bytes, in any output that holds them.
+abbrev pub CopiedBack : Type 0
+CopiedBack = (lim : Limits) (book : List ℕ) → T (areBytes book) → (b : Book) (rest : List ℕ) → parseBook lim book ≡ parsed b rest
+    → (out : List ℕ) → callCopy lim book out ≡ emit book [] out
+
 pub record Demand2 : Type 0 where
   pub rebuilds : Rebuilds
   pub least : Least
   pub lines-read-back : LinesReadBack
   pub written-back : WrittenBack
+  pub copied-back : CopiedBack

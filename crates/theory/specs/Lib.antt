@@ -2,8 +2,14 @@ pub mod Modest
 pub mod Run
 pub mod Values
 pub mod Binding
+pub mod Walk
+pub mod Tests
+pub mod Line
 pub mod Choice
+pub mod Reading
+pub mod Numbering
 pub mod Soundness
 pub mod ReportOfValues
+pub mod Demand1
 pub mod Demand2
 pub mod Demand3

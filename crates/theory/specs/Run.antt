@@ -3,8 +3,11 @@ use mathlib.Core.Path.{_≡_}
 use mathlib.Core.List.{List, [], _∷_}
 use mathlib.Core.Bool.{Bool, true, false, cond, _&&_}
 use Prim.Native.Nat.{ℕ}
-use lib.Dec.{eqb}
+use lib.ListN.{length}
+use lib.Dec.{eqb, leb}
 use Rattle.model.specs.Limits.{Limits}
+use Rattle.model.specs.Step.{State, Answer, refused, accepted, addLine, bind}
+use Rattle.model.specs.Report.{reportBytes}
 use Rattle.model.specs.Call.{Outcome, callAdd, callBind, callReport}
 
 -- A call of the list: add a line, fix a choice, or report into an output.
@@ -61,3 +64,37 @@ module _ (lim : Limits) where
   abbrev pub NoneRefused : List ℕ → List Request → Type 0
   NoneRefused area [] = Unit {0}
   NoneRefused area (q ∷ qs) = (call area q .refusal ≡ 0) × NoneRefused (call area q .area) qs
+
+-- THE SAME BY THE RULES, on states: a line is `addLine`, a choice is `bind`, a report leaves the state.
+abbrev pub isAccepted : Answer → Bool
+isAccepted (refused n) = false
+isAccepted (accepted ns s) = true
+
+-- The state after an answer: a refusal leaves it.
+abbrev pub after : State → Answer → State
+after s (refused n) = s
+after s (accepted ns s′) = s′
+
+-- A report's answer, by whether its bytes fit.
+abbrev pub reported : State → List ℕ → Bool → Answer
+reported s new true = accepted (length new ∷ []) s
+reported s new false = refused 13
+
+module _ (lim : Limits) where
+  abbrev pub answer : State → Request → Answer
+  answer s (add l r) = addLine lim s l r
+  answer s (fix v t) = bind s v t
+  answer s (ask out) = reported s (reportBytes s) (leb (length (reportBytes s)) (length out))
+
+  abbrev pub next : State → Request → State
+  next s q = after s (answer s q)
+
+  -- The state after the list, one call after the other.
+  abbrev pub stateRun : State → List Request → State
+  stateRun s [] = s
+  stateRun s (q ∷ qs) = stateRun (next s q) qs
+
+  -- Every call of the list is accepted.
+  abbrev pub AllAccepted : State → List Request → Type 0
+  AllAccepted s [] = Unit {0}
+  AllAccepted s (q ∷ qs) = (isAccepted (answer s q) ≡ true) × AllAccepted (next s q) qs

@@ -96,6 +96,16 @@ unfolding isEmpty
 empty-nil [] h = refl
 empty-nil (x ∷ xs) h = absurd h
 
+-- a decoded book leaves no bytes
+pub parsed-whole : (lim : Limits) (bytes : List ℕ) (b : Book) (rest : List ℕ) → parseBook lim bytes ≡ parsed b rest → rest ≡ []
+unfolding parseBook
+parsed-whole lim bytes b rest e =
+    gives-at (λ b rest. rest ≡ []) (parseBook lim bytes) b rest
+    (andThen-any _ (parseNumber bytes) _ λ n mid.
+    need-gives _ (leb n (lim .maxTerms)) 4 _ λ l.
+    andThen-any _ (parseTerms n [] mid) _ λ b′ rest′. need-gives _ (isEmpty rest′) 3 (parsed b′ []) λ h. refl)
+    e
+
 -- writing what was decoded gives its bytes back
 pub written-back : (lim : Limits) (bytes : List ℕ) (b : Book) (rest : List ℕ) → T (areBytes bytes)
     → parseBook lim bytes ≡ parsed b rest → bookBytes b ≡ bytes

@@ -26,7 +26,7 @@ snoc-all P (y ∷ ys) x h p zero l = h 0 (suc-le-suc zero-le)
 snoc-all P (y ∷ ys) x h p (suc i) l = snoc-all P ys x (λ i l. h (suc i) (suc-le-suc l)) p i (le-of-suc-le-suc l)
 
 -- the elements of a list are distinct
-abbrev Distinct : List ℕ → Type 0
+abbrev pub Distinct : List ℕ → Type 0
 Distinct xs = (i j : ℕ) → i < j → j < length xs → getD xs i 0 ≡ getD xs j 0 → ⊥
 
 -- they stay so with another element behind
@@ -41,11 +41,11 @@ snoc-distinct (y ∷ ys) x h g (suc i) (suc j) p l e =
     (le-of-suc-le-suc p) (le-of-suc-le-suc l) e
 
 -- Distinct numbers below n: what was met, in a table of n entries.
-record Met (n : ℕ) (met : List ℕ) : Type 0 where
-  below : (i : ℕ) → i < length met → getD met i 0 < n
-  distinct : Distinct met
+pub record Met (n : ℕ) (met : List ℕ) : Type 0 where
+  pub below : (i : ℕ) → i < length met → getD met i 0 < n
+  pub distinct : Distinct met
 
-met-none : (n : ℕ) → Met n []
+pub met-none : (n : ℕ) → Met n []
 met-none n = record { below = λ i l. absurd (not-suc-le-zero l); distinct = λ i j p l e. not-suc-le-zero l }
 
 -- a number that `first` does not find is not there
@@ -69,7 +69,7 @@ module _ (n : ℕ) where
           }
 
   -- several more are met
-  met-meetAll : (met xs : List ℕ) → Met n met → ((i : ℕ) → i < length xs → getD xs i 0 < n) → Met n (meetAll met xs)
+  pub met-meetAll : (met xs : List ℕ) → Met n met → ((i : ℕ) → i < length xs → getD xs i 0 < n) → Met n (meetAll met xs)
   unfolding meetAll
   met-meetAll met [] m h = m
   met-meetAll met (x ∷ xs) m h =
@@ -81,7 +81,7 @@ cond-when true x y z h = h refl
 cond-when false x y z h = refl
 
 -- the arguments of a right kind are in the table
-kind-arguments-below : (b : Book) (β : Bindings) (es : Table) (k : Kind) (l r : Node) → KindRight b β es k l r
+pub kind-arguments-below : (b : Book) (β : Bindings) (es : Table) (k : Kind) (l r : Node) → KindRight b β es k l r
     → (j : ℕ) → j < length (kindArguments k) → getD (kindArguments k) j 0 < length es
 unfolding kindArguments
 kind-arguments-below b β es hole l r h j p = absurd (not-suc-le-zero p)
@@ -105,21 +105,21 @@ module _ (b : Book) (β : Bindings) (es : Table) (right : TableRight b β es) wh
       sym (right .same-as j m)
 
   -- classes of entries are in the table
-  classes-below : (xs : List ℕ) → ((i : ℕ) → i < length xs → getD xs i 0 < length es)
+  pub classes-below : (xs : List ℕ) → ((i : ℕ) → i < length xs → getD xs i 0 < length es)
       → (i : ℕ) → i < length (map (class es) xs) → getD (map (class es) xs) i 0 < length es
   classes-below xs h i l =
       let m : i < length xs = subst (λ (n : ℕ). i < n) (length-map xs (class es)) l in
       rw (getD-map-lt (class es) xs i 0 0 m) (class-has (getD xs i 0) (h i m) .present)
 
   -- the classes of an entry's arguments are met
-  met-arguments : (met : List ℕ) (c : ℕ) → Met (length es) met → c < length es → Met (length es) (meetAll met (argumentClasses es c))
+  pub met-arguments : (met : List ℕ) (c : ℕ) → Met (length es) met → c < length es → Met (length es) (meetAll met (argumentClasses es c))
   unfolding argumentClasses
   met-arguments met c m h =
       met-meetAll (length es) met (argumentClasses es c) m
       (classes-below (kindArguments (entry es c .kind)) (kind-arguments-below b β es (entry es c .kind) _ _ (right .kind-right c h)))
 
   -- a list that was met is no longer than the table
-  met-short : (met : List ℕ) → Met (length es) met → length met ≤ length es
+  pub met-short : (met : List ℕ) → Met (length es) met → length met ≤ length es
   met-short met m = pigeonhole met (length es) (m .below) (m .distinct)
 
   -- fuel for the entries from i on is enough: two such amounts number the same

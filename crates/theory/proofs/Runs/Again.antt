@@ -14,13 +14,13 @@ use Rattle.model.specs.Term.{Book, Bindings, val}
 use Rattle.model.specs.Table.{Table, walk, settle}
 use Rattle.model.specs.Step.{State, Answer, refused, accepted, require, saturate, addLine, isFree, turned, bind, opened}
 use Rattle.model.specs.Report.{report}
-use Rattle.theory.specs.Run.{Request, add, fix, ask, isLine, isChoice, leftTerm, rightTerm}
+use Rattle.theory.specs.Run.{Request, add, fix, ask, isLine, isChoice, leftTerm, rightTerm, isAccepted, after, answer, next, stateRun, AllAccepted}
 use Rattle.theory.proofs.Soundness.Facts.{TableRight, SoundFacts}
 use Rattle.theory.proofs.Lists.Laws.{true-T}
 use Rattle.theory.proofs.Steps.Kept.{Added, added, added-sound, Bound}
 use Rattle.theory.proofs.Runs.Fits.{Within, add-within}
 use Rattle.theory.proofs.Report.Values.{report-of-values}
-use Rattle.theory.proofs.Runs.States.{isAccepted, after, picked, answer, next, stateRun, acceptedIn, AllAccepted, stateRun-append, all-accepted-append, moved, next-sound, run-sound}
+use Rattle.theory.proofs.Runs.States.{picked, acceptedIn, stateRun-append, all-accepted-append, moved, next-sound, run-sound}
 use Rattle.theory.proofs.Runs.Lines.{Line, Pairs, none, more, pairs-length, Lines, lines-left, lines-right, lines-added, and-false, lines-run}
 
 -- The state without its table and lines.

@@ -12,12 +12,12 @@ use Rattle.model.specs.Term.{Book, Bindings, Tree, val}
 use Rattle.model.specs.Table.{Table, entry}
 use Rattle.model.specs.Step.{State, Answer, refused, accepted}
 use Rattle.model.specs.Pattern.{leftValue, rightValue}
-use Rattle.theory.specs.Run.{Request, add, fix, ask, isLine, leftTerm, rightTerm}
+use Rattle.theory.specs.Run.{Request, add, fix, ask, isLine, leftTerm, rightTerm, isAccepted, after, answer, next, stateRun}
 use Rattle.theory.proofs.Soundness.Facts.{Has, SoundFacts}
 use Rattle.theory.proofs.Values.Binding.{bound-equal}
 use Rattle.theory.proofs.Table.Place.{has-extends}
 use Rattle.theory.proofs.Steps.Kept.{Added, Bound}
-use Rattle.theory.proofs.Runs.States.{isAccepted, after, picked, answer, next, stateRun, acceptedIn, moved, next-sound}
+use Rattle.theory.proofs.Runs.States.{picked, acceptedIn, moved, next-sound}
 
 -- The request is a line of terms of the book, and entry i has their values.
 pub record Line (b : Book) (β : Bindings) (es : Table) (i : ℕ) (q : Request) : Type 0 where

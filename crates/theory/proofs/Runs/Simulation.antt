@@ -1,23 +1,23 @@
 -- Calls on bytes are steps on states: on an area that carries a sound state a call answers as that state does and leaves an
 -- area of the same length that carries the state after it; so do lists of calls. Assumes nothing.
-use mathlib.Core.Path.{_≡_, refl, _∙_}
+use mathlib.Core.Path.{_≡_, refl, sym, _∙_}
 use mathlib.Core.List.{List, [], _∷_, _++_}
 use mathlib.Core.Bool.{Bool, true, false, cond, _&&_}
 use Prim.Native.Nat.{ℕ, _≤_}
 use lib.ListN.{length}
 use lib.Dec.{T, eqb, leb}
-use borrow.Author.Tests.{eqb-true}
+use borrow.Author.Tests.{eqb-true, eq-eqb}
 use Rattle.model.specs.Limits.{Limits}
 use Rattle.model.specs.Step.{State, Answer, refused, accepted, addLine, bind}
 use Rattle.model.specs.Report.{reportBytes}
 use Rattle.model.specs.Area.{areaLength, areaBytes, sound, stateOf}
 use Rattle.model.specs.Call.{Outcome, refuse, accept, guard, over, emit, stepped, callAdd, callBind, callReport}
 use Rattle.theory.specs.Modest.{Modest}
-use Rattle.theory.specs.Run.{Request, add, fix, ask, call, run, acceptedOf, NoneRefused}
+use Rattle.theory.specs.Run.{Request, add, fix, ask, call, run, acceptedOf, NoneRefused, isAccepted, after, reported, answer, next, stateRun, AllAccepted}
 use Rattle.theory.proofs.Soundness.Facts.{SoundFacts}
 use Rattle.theory.proofs.Lists.Laws.{T-true}
 use Rattle.theory.proofs.Area.Bytes.{Carries, carried-state, carried-sound, sound-carries, over-carries, over-length}
-use Rattle.theory.proofs.Runs.States.{isAccepted, refusalOf, after, reported, picked, refusal-zero, refusal-not-seven, answer, next, stateRun, acceptedIn, AllAccepted, answer-numbered, next-sound, next-capacity}
+use Rattle.theory.proofs.Runs.States.{refusalOf, picked, refusal-zero, refusal-not-seven, acceptedIn, answer-numbered, next-sound, next-capacity}
 
 -- The area carries the sound state s.
 pub record Lives (lim : Limits) (s : State) (area : List ℕ) : Type 0 where
@@ -39,7 +39,7 @@ module _ (lim : Limits) where
   call-on area (ask out) h = rw h
 
   -- its refusal is the answer's
-  stepped-refusal : (count : ℕ) (area : List ℕ) (a : Answer) → stepped lim count area a .refusal ≡ refusalOf a
+  pub stepped-refusal : (count : ℕ) (area : List ℕ) (a : Answer) → stepped lim count area a .refusal ≡ refusalOf a
   unfolding stepped refuse accept
   stepped-refusal count area (refused n) = refl
   stepped-refusal count area (accepted ns s) = refl
@@ -171,4 +171,12 @@ module _ (lim : Limits) where
     none-refused s area (q ∷ qs) v h = (
       eqb-true (call lim area q .refusal) 0 (accepts s area q v ∙ h .0),
       none-refused (next lim s q) (call lim area q .area) qs (follows s area q v .lives) (h .1),
+    )
+
+    -- and the other way round
+    pub all-accepted : (s : State) (area : List ℕ) (qs : List Request) → Lives lim s area → NoneRefused lim area qs → AllAccepted lim s qs
+    all-accepted s area [] v h = tt
+    all-accepted s area (q ∷ qs) v h = (
+      sym (accepts s area q v) ∙ eq-eqb (call lim area q .refusal) 0 (h .0),
+      all-accepted (next lim s q) (call lim area q .area) qs (follows s area q v .lives) (h .1),
     )

@@ -9,28 +9,15 @@ use lib.Dec.{T, eqb, leb}
 use Rattle.model.specs.Limits.{Limits}
 use Rattle.model.specs.Step.{State, Answer, refused, accepted, require, addLine, bind}
 use Rattle.model.specs.Report.{reportBytes}
-use Rattle.theory.specs.Run.{Request, add, fix, ask}
+use Rattle.theory.specs.Run.{Request, add, fix, ask, isAccepted, after, reported, answer, next, stateRun, AllAccepted}
 use Rattle.theory.proofs.Soundness.Facts.{SoundFacts}
 use Rattle.theory.proofs.Lists.Laws.{and-left, and-right}
 use Rattle.theory.proofs.Steps.Kept.{Added, added, added-sound, Bound, bound, bound-sound}
 
--- whether an answer accepts, its refusal (0 where it accepts), and the state after it
-abbrev pub isAccepted : Answer → Bool
-isAccepted (refused n) = false
-isAccepted (accepted ns s) = true
-
+-- an answer's refusal, 0 where it accepts
 abbrev pub refusalOf : Answer → ℕ
 refusalOf (refused n) = n
 refusalOf (accepted ns s) = 0
-
-abbrev pub after : State → Answer → State
-after s (refused n) = s
-after s (accepted ns s′) = s′
-
--- the answer to a report of the given bytes, by whether they fit
-abbrev pub reported : State → List ℕ → Bool → Answer
-reported s new true = accepted (length new ∷ []) s
-reported s new false = refused 13
 
 -- the request where the test holds
 abbrev pub picked : Bool → Request → List Request
@@ -72,39 +59,22 @@ reported-same s s′ new ns true e = cc
 reported-same s s′ new ns false e = cc
 
 module _ (lim : Limits) where
-  -- what a call answers on a state, and the state after it
-  abbrev pub answer : State → Request → Answer
-  answer s (add l r) = addLine lim s l r
-  answer s (fix v t) = bind s v t
-  answer s (ask out) = reported s (reportBytes s) (leb (length (reportBytes s)) (length out))
-
-  abbrev pub next : State → Request → State
-  next s q = after s (answer s q)
-
-  -- the state after a list of calls, the accepted calls that pass, and that all are accepted
-  abbrev pub stateRun : State → List Request → State
-  stateRun s [] = s
-  stateRun s (q ∷ qs) = stateRun (next s q) qs
-
+  -- the accepted calls that pass
   abbrev pub acceptedIn : (Request → Bool) → State → List Request → List Request
   acceptedIn p s [] = []
-  acceptedIn p s (q ∷ qs) = picked (p q && isAccepted (answer s q)) q ++ acceptedIn p (next s q) qs
-
-  abbrev pub AllAccepted : State → List Request → Type 0
-  AllAccepted s [] = Unit {0}
-  AllAccepted s (q ∷ qs) = (isAccepted (answer s q) ≡ true) × AllAccepted (next s q) qs
+  acceptedIn p s (q ∷ qs) = picked (p q && isAccepted (answer lim s q)) q ++ acceptedIn p (next lim s q) qs
 
   -- two lists of calls, one after the other
-  pub stateRun-append : (s : State) (qs rs : List Request) → stateRun s (qs ++ rs) ≡ stateRun (stateRun s qs) rs
+  pub stateRun-append : (s : State) (qs rs : List Request) → stateRun lim s (qs ++ rs) ≡ stateRun lim (stateRun lim s qs) rs
   stateRun-append s [] rs = refl
-  stateRun-append s (q ∷ qs) rs = stateRun-append (next s q) qs rs
+  stateRun-append s (q ∷ qs) rs = stateRun-append (next lim s q) qs rs
 
-  pub all-accepted-append : (s : State) (qs rs : List Request) → AllAccepted s qs → AllAccepted (stateRun s qs) rs → AllAccepted s (qs ++ rs)
+  pub all-accepted-append : (s : State) (qs rs : List Request) → AllAccepted lim s qs → AllAccepted lim (stateRun lim s qs) rs → AllAccepted lim s (qs ++ rs)
   all-accepted-append s [] rs h g = g
-  all-accepted-append s (q ∷ qs) rs h g = (h .0, all-accepted-append (next s q) qs rs (h .1) g)
+  all-accepted-append s (q ∷ qs) rs h g = (h .0, all-accepted-append (next lim s q) qs rs (h .1) g)
 
   -- every refusal of a call on a state is numbered so
-  pub answer-numbered : (s : State) (q : Request) → Numbered (answer s q)
+  pub answer-numbered : (s : State) (q : Request) → Numbered (answer lim s q)
   unfolding addLine bind
   answer-numbered s (add l r) = require-numbered _ 8 _ tt (require-numbered _ 12 _ tt (require-numbered _ 11 _ tt tt))
   answer-numbered s (fix v t) =
@@ -118,29 +88,29 @@ module _ (lim : Limits) where
   Moved s s′ (ask out) = s′ ≡ s
 
   -- an accepted call leaves that, and a sound state
-  pub moved : (s s′ : State) (q : Request) (ns : List ℕ) → SoundFacts lim s → answer s q ≡ accepted ns s′ → Moved s s′ q
+  pub moved : (s s′ : State) (q : Request) (ns : List ℕ) → SoundFacts lim s → answer lim s q ≡ accepted ns s′ → Moved s s′ q
   moved s s′ (add l r) ns f e = let a = added lim s s′ l r ns f e in (a .0, a .2)
   moved s s′ (fix v t) ns f e = bound s s′ v t ns e
   moved s s′ (ask out) ns f e = reported-same s s′ (reportBytes s) ns (leb (length (reportBytes s)) (length out)) e
 
-  accepted-sound : (s s′ : State) (q : Request) (ns : List ℕ) → SoundFacts lim s → answer s q ≡ accepted ns s′ → SoundFacts lim s′
+  accepted-sound : (s s′ : State) (q : Request) (ns : List ℕ) → SoundFacts lim s → answer lim s q ≡ accepted ns s′ → SoundFacts lim s′
   accepted-sound s s′ (add l r) ns f e = added-sound lim s s′ l r ns f e
   accepted-sound s s′ (fix v t) ns f e = bound-sound lim s s′ v t ns f e
   accepted-sound s s′ (ask out) ns f e =
       rw (reported-same s s′ (reportBytes s) ns (leb (length (reportBytes s)) (length out)) e) f
 
   -- whatever a call answers, the state after it is sound
-  after-sound : (s : State) (q : Request) (a : Answer) → SoundFacts lim s → answer s q ≡ a → SoundFacts lim (after s a)
+  after-sound : (s : State) (q : Request) (a : Answer) → SoundFacts lim s → answer lim s q ≡ a → SoundFacts lim (after s a)
   after-sound s q (refused n) f e = f
   after-sound s q (accepted ns s′) f e = accepted-sound s s′ q ns f e
 
   -- calls keep soundness, the book and the capacity
-  pub next-sound : (s : State) (q : Request) → SoundFacts lim s → SoundFacts lim (next s q)
-  next-sound s q f = after-sound s q (answer s q) f refl
+  pub next-sound : (s : State) (q : Request) → SoundFacts lim s → SoundFacts lim (next lim s q)
+  next-sound s q f = after-sound s q (answer lim s q) f refl
 
-  pub run-sound : (s : State) (qs : List Request) → SoundFacts lim s → SoundFacts lim (stateRun s qs)
+  pub run-sound : (s : State) (qs : List Request) → SoundFacts lim s → SoundFacts lim (stateRun lim s qs)
   run-sound s [] f = f
-  run-sound s (q ∷ qs) f = run-sound (next s q) qs (next-sound s q f)
+  run-sound s (q ∷ qs) f = run-sound (next lim s q) qs (next-sound s q f)
 
   -- an accepted call keeps the book and the capacity
   moved-book : (s s′ : State) (q : Request) → Moved s s′ q → s′ .book ≡ s .book
@@ -154,15 +124,15 @@ module _ (lim : Limits) where
   moved-capacity s s′ (ask out) m = ap (λ (u : State). u .capacity) m
 
   -- whatever a call answers, the state after it has the same book and capacity
-  after-same : (s : State) (q : Request) (a : Answer) → SoundFacts lim s → answer s q ≡ a
+  after-same : (s : State) (q : Request) (a : Answer) → SoundFacts lim s → answer lim s q ≡ a
       → (after s a .book ≡ s .book) × (after s a .capacity ≡ s .capacity)
   after-same s q (refused n) f e = (refl, refl)
   after-same s q (accepted ns s′) f e =
       let m = moved s s′ q ns f e in (moved-book s s′ q m, moved-capacity s s′ q m)
 
-  pub next-capacity : (s : State) (q : Request) → SoundFacts lim s → next s q .capacity ≡ s .capacity
-  next-capacity s q f = after-same s q (answer s q) f refl .1
+  pub next-capacity : (s : State) (q : Request) → SoundFacts lim s → next lim s q .capacity ≡ s .capacity
+  next-capacity s q f = after-same s q (answer lim s q) f refl .1
 
-  pub run-book : (s : State) (qs : List Request) → SoundFacts lim s → stateRun s qs .book ≡ s .book
+  pub run-book : (s : State) (qs : List Request) → SoundFacts lim s → stateRun lim s qs .book ≡ s .book
   run-book s [] f = refl
-  run-book s (q ∷ qs) f = run-book (next s q) qs (next-sound s q f) ∙ after-same s q (answer s q) f refl .0
+  run-book s (q ∷ qs) f = run-book (next lim s q) qs (next-sound s q f) ∙ after-same s q (answer lim s q) f refl .0

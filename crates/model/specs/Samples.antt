@@ -228,6 +228,23 @@ pub samples-on-states : map onStates (samples 1024) ≡ map expected (samples 10
 unfolding computation
 samples-on-states = refl
 
+-- With all lines taken, the next is refused by 12, also where its walk needs more entries than the capacity (11), but not before
+-- its numbers are looked at (8). The office takes 256 lines; these limits take two.
+abbrev pub fullOfLines : List Sample
+fullOfLines =
+    record {
+      book = bookA;
+      capacity = 1;
+      said =
+          says (add 4 5) (11 ∷ []) ∷ says (add 0 1) (0 ∷ 0 ∷ []) ∷ says (add 0 1) (0 ∷ 0 ∷ []) ∷ says (add 0 1) (12 ∷ []) ∷
+          says (add 4 5) (12 ∷ []) ∷ says (add 6 0) (8 ∷ []) ∷
+          says (ask 64) (0 ∷ 2 ∷ 0 ∷ 0 ∷ 1 ∷ 0 ∷ 1 ∷ 0 ∷ []) ∷ [];
+    } ∷ []
+
+pub full-of-lines : map (onBytes small) fullOfLines ≡ map expected fullOfLines
+unfolding computation
+full-of-lines = refl
+
 -- Document 01's examples of refusals 1 to 6 of a book.
 abbrev pub badBooks : List (List ℕ)
 badBooks =

@@ -33,7 +33,7 @@ use Rattle.theory.proofs.Values.Binding.{ends-at-length, bound-formed, 
 use Rattle.theory.proofs.Soundness.Terms.{formed-facts, facts-acyclic}
 use Rattle.theory.proofs.Soundness.Test.{sound-facts, facts-sound}
 use Rattle.theory.proofs.Soundness.Proper.{proper-facts, facts-proper}
-use Rattle.theory.proofs.Steps.Kept.{bound, bound-sound, choice, table-size}
+use Rattle.theory.proofs.Steps.Kept.{bound, bound-sound, table-size}
 use Rattle.theory.proofs.Area.Bytes.{over-carries}
 use Rattle.theory.proofs.Patterns.Lines.{fill-left, fill-right, fill-lines-left, fill-lines-right, least-lines}
 use Rattle.theory.proofs.Report.Values.{report-of-values}
@@ -48,6 +48,7 @@ pub use Rattle.theory.proofs.Values.StandsFor.{stands-for-as-written}
 pub use Rattle.theory.proofs.Table.WalkLength.{walk-long-enough}
 pub use Rattle.theory.proofs.Steps.Eleven.{eleven-of-line, eleven-of-choice}
 pub use Rattle.theory.proofs.Steps.Line.{line}
+pub use Rattle.theory.proofs.Steps.Kept.{choice}
 pub use Rattle.theory.proofs.Patterns.Readings.{readings-as-written}
 pub use Rattle.theory.proofs.Report.Numbering.{numbering-as-written}
 pub use Rattle.theory.proofs.Runs.LineOnAreas.{line-on-areas}

@@ -21,7 +21,8 @@ abbrev pub OpeningIsSound : Type 0
 OpeningIsSound = (lim : Limits) → Modest lim → (capacity : ℕ) (book area : List ℕ) → callOpen lim capacity book area .refusal ≡ 0
     → T (sound lim (callOpen lim capacity book area .area))
 
--- Adding, fixing and reporting on a sound area leave a sound area, of the same length; the other calls do not alter it.
+-- Adding, fixing and reporting on a sound area leave a sound area, of the same length. (That the other calls do not alter an
+-- area is in `Demand1`.)
 abbrev pub CallsKeepSound : Type 0
 CallsKeepSound = (lim : Limits) → Modest lim → (area : List ℕ) (q : Request) → T (sound lim area)
     → T (sound lim (call lim area q .area)) × (length (call lim area q .area) ≡ length area)

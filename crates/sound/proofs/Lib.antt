@@ -1,1 +1,4 @@
+pub mod Facts
+pub mod Tests
 pub mod State
+pub mod Theorems

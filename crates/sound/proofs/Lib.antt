@@ -1,4 +1,6 @@
 pub mod Facts
 pub mod Tests
+pub mod Padded
 pub mod State
+pub mod StateTests
 pub mod Theorems

@@ -1,13 +1,16 @@
 -- What a function gives from a number on, one number after the other: its elements and its parts. Assumes nothing.
-use mathlib.Core.Path.{_≡_, refl, ap, sym, _∙_}
-use mathlib.Core.List.{List, _++_, map}
+use mathlib.Core.Path.{_≡_, sym, _∙_}
+use mathlib.Core.List.{_++_, map}
+use mathlib.Core.Bool.{Bool}
+use mathlib.Core.Logic.{_↔_}
 use Prim.Native.Nat.{ℕ, zero, suc, _+_, _-_, _≤_, _<_}
 use native.Mathlib.Nat.{add-zero, zero-add, suc-add, add-suc, le-of-suc-le-suc, not-suc-le-zero}
 use native.Mathlib.Omega.{arith}
 use lib.ListN.{length, getD, take, drop, length-map}
 use lib.Seq.{take-at, drop-at}
-use Rattle.model.specs.Lists.{from}
-use Rattle.theory.proofs.Lists.Laws.{length-from}
+use lib.Dec.{T}
+use Rattle.model.specs.Lists.{all, from}
+use Rattle.theory.proofs.Lists.Laws.{all-at, all-intro, length-from}
 use Rattle.theory.proofs.Lists.Rows.{map-from}
 
 module _ {A : Type 0} (f : ℕ → A) where
@@ -38,6 +41,15 @@ module _ {A : Type 0} (f : ℕ → A) where
         map-from-append (i + j) c (n - (j + c)),
       )
       (take-at (map f (from (i + j) c)) _ c (length-map-from (i + j) c))
+
+  -- all of them pass exactly when each does
+  pub all-map-from : (p : A → Bool) (n : ℕ) → T (all p (map f (from 0 n))) ↔ ((i : ℕ) → i < n → T (p (f i)))
+  all-map-from p n = (
+    λ h i l. rw (getD-map-from 0 n i (f 0) l, zero-add) at (all-at p (map f (from 0 n)) (f 0) h i (rw (length-map-from 0 n) l)),
+    λ h. all-intro p (map f (from 0 n)) (f 0) (λ i l.
+        let k : i < n = rw (length-map-from 0 n) at l in
+        rw (getD-map-from 0 n i (f 0) k, zero-add) (h i k)),
+  )
 
 -- two functions that give the same
 pub map-from-same : {A : Type 0} (f g : ℕ → A) (d : A) (i n : ℕ) → ((j : ℕ) → j < n → f (i + j) ≡ g (i + j)) → map f (from i n) ≡ map g (from i n)

@@ -1,15 +1,22 @@
 -- What loaded rows hold, one by one: the terms, the bindings and the entries. Assumes nothing.
-use mathlib.Core.Path.{_≡_}
-use mathlib.Core.List.{List, map}
-use Prim.Native.Nat.{ℕ, _<_}
+use mathlib.Core.Path.{_≡_, refl, sym, _∙_}
+use mathlib.Core.List.{List, map, map-map}
+use mathlib.Core.Bool.{Bool, true, false, cond}
+use mathlib.Core.Option.{Option, none, some}
+use Prim.Native.Nat.{ℕ, suc, _+_, _*_, _-_, _≤_, _<_, zero-le}
 use native.Mathlib.Nat.{zero-add}
-use lib.ListN.{length, getD}
+use native.Mathlib.Omega.{arith}
+use borrow.Author.Tests.{eqb-true, eqb-false}
+use lib.ListN.{length, getD, take, drop, length-take}
+use lib.Seq.{length-take-le, getD-take}
+use lib.Dec.{eqb}
 use Rattle.model.specs.Lists.{from}
-use Rattle.model.specs.Term.{Node}
-use mathlib.Core.Option.{Option}
+use Rattle.model.specs.Term.{Node, var, app, arguments}
 use Rattle.model.specs.Table.{Entry}
+use Rattle.model.specs.Area.{termWords, bindingWord}
 use Rattle.theory.proofs.Lists.From.{length-map-from, getD-map-from}
-use Rattle.layout.specs.Rows.{nodeOf, bookOf, bindingOf, boundOf, loadedEntry, tableOf}
+use Rattle.theory.proofs.Lists.Rows.{map-from}
+use Rattle.layout.specs.Rows.{at, nodeOf, bookOf, bindingOf, boundOf, loadedEntry, tableOf}
 
 module _ (words : List ℕ) (n : ℕ) where
   -- as many as were asked for
@@ -37,3 +44,30 @@ module _ (words : List ℕ) (n : ℕ) where
   pub getD-tableOf : (i : ℕ) (d : Entry) → i < n → getD (tableOf words n) i d ≡ loadedEntry words i
   unfolding tableOf
   getD-tableOf i d h = rw zero-add at (getD-map-from (loadedEntry words) 0 n i d h)
+
+-- a term in a row has at most as many arguments as its count says
+few-at : (t : Bool) (s c : ℕ) (xs : List ℕ) → length (arguments (cond t var (app s (take c xs)))) ≤ c
+unfolding arguments
+few-at true s c xs = zero-le
+few-at false s c xs = rw length-take (omega arith)
+
+pub few-arguments : (rows : List ℕ) (t : ℕ) → length (arguments (nodeOf rows t)) ≤ at rows (termWords * t + 1)
+unfolding nodeOf
+few-arguments rows t =
+    let i = termWords * t in
+    few-at (eqb (at rows i) 0) (at rows i - 1) (at rows (i + 1)) (drop (i + 2) rows)
+
+-- the word of the binding in a word is that word
+word-at : (x : ℕ) (t : Bool) → eqb x 0 ≡ t → bindingWord (cond t none (some (x - 1))) ≡ x
+unfolding bindingWord
+word-at x true e = sym (eqb-true x 0 e)
+word-at x false e = let h : x ≡ 0 → ⊥ = eqb-false x 0 e in omega arith
+
+-- the words of the bindings in the first n words are those words
+pub binding-words : (words : List ℕ) (n : ℕ) → n ≤ length words → map bindingWord (boundOf words n) ≡ take n words
+unfolding boundOf bindingOf
+binding-words words n h =
+    let long : length (take n words) ≡ n = length-take-le n words h in
+    map-map bindingWord (bindingOf words) (from 0 n) ∙
+    (rw long at (map-from (λ t. bindingWord (bindingOf words t)) 0 (take n words) 0 (λ t l.
+    rw (zero-add, getD-take n words t 0 (omega arith)) (word-at (at words t) (eqb (at words t) 0) refl))))

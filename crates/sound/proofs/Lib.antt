@@ -3,4 +3,6 @@ pub mod Tests
 pub mod Padded
 pub mod State
 pub mod StateTests
+pub mod Parts
+pub mod Chain
 pub mod Theorems

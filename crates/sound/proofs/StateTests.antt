@@ -33,6 +33,11 @@ node-tests b t (app s args) =
       λ h. let g : _ = two .0 (h .0) in four .1 (g .0, le→leb (length args) maxArity (h .1), g .1, h .2),
     )
 
+-- a symbol has one count exactly when each term's has
+pub arity-tests : (rows : List ℕ) (n : ℕ) → T (oneArity (bookOf rows n)) ↔ ((t : ℕ) → t < n → T (nodeArityOk (bookOf rows n) (nodeOf rows t)))
+unfolding oneArity bookOf
+arity-tests rows n = all-map-from (nodeOf rows) (nodeArityOk (bookOf rows n)) n
+
 module _ (rows words : List ℕ) (n : ℕ) where
   -- the loaded terms and their bindings pass exactly when each does
   pub terms-tests : T (termsOk (bookOf rows n) (boundOf words n)) ↔
@@ -50,11 +55,6 @@ module _ (rows words : List ℕ) (n : ℕ) where
             rw (getD-bookOf rows n t var k, getD-boundOf words n t none k)
             (and₂ (nodeOk b t (nodeOf rows t)) (bindingOk b (nodeOf rows t) (bindingOf words t)) .1 (h t k))),
       )
-
-  -- a symbol has one count exactly when each term's has
-  pub arity-tests : T (oneArity (bookOf rows n)) ↔ ((t : ℕ) → t < n → T (nodeArityOk (bookOf rows n) (nodeOf rows t)))
-  unfolding oneArity bookOf
-  arity-tests = all-map-from (nodeOf rows) (nodeArityOk (bookOf rows n)) n
 
 -- an entry passes exactly when its sides are terms and its values are right
 entry-tests : (b : Book) (β : Bindings) (es : Table) (e : Entry)

@@ -5,4 +5,5 @@ pub mod State
 pub mod StateTests
 pub mod Parts
 pub mod Chain
+pub mod Words
 pub mod Theorems

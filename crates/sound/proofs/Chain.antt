@@ -1,29 +1,28 @@
 -- The chain of tests on loaded words: what passes it is a sound state whose words they are, and the other way round.
 -- Assumes nothing.
 use mathlib.Core.Path.{_≡_, refl, sym, ap, subst, _∙_}
-use mathlib.Core.List.{List, map}
-use Prim.Native.Nat.{ℕ, _*_, _≤_, _<_}
+use Prim.Native.Nat.{_*_, _≤_}
 use native.Mathlib.Nat.{zero-add, le-trans}
 use native.Mathlib.Omega.{arith}
 use lib.ListN.{length, take, drop, length-map, length-take}
 use lib.Seq.{length-take-le}
 use lib.Dec.{T}
 use Rattle.model.specs.Limits.{Limits}
-use Rattle.model.specs.Lists.{all, concatMap, padded}
+use Rattle.model.specs.Lists.{all}
 use Rattle.model.specs.Term.{var, Book, acyclic}
 use Rattle.model.specs.Table.{holeAt}
 use Rattle.model.specs.Step.{State}
-use Rattle.model.specs.Area.{termWords, entryRowWords, nodeWords, bindingWord, entryWords, bindingOk, distinct, soundState}
+use Rattle.model.specs.Area.{termWords, entryRowWords, nodeWords, entryWords, distinct, soundState}
 use Rattle.theory.proofs.Soundness.Facts.{SoundFacts}
 use Rattle.theory.proofs.Soundness.Test.{ranges, tests, sound-facts}
 use Rattle.theory.proofs.Lists.Conjunctions.{and₂}
-use Rattle.theory.proofs.Lists.Rows.{Wide, length-rows}
+use Rattle.theory.proofs.Lists.Rows.{length-rows}
 use Rattle.theory.proofs.Area.Layout.{wide-nodes, wide-entries}
-use Rattle.layout.specs.Rows.{Loaded, loadedState, nodeOf, bookOf, bindingOf, boundOf, loadedEntry, tableOf}
+use Rattle.layout.specs.Rows.{Loaded, loadedState, nodeOf, bookOf, loadedEntry, tableOf}
 use Rattle.layout.proofs.Rows.{length-bookOf, length-boundOf, length-tableOf, getD-bookOf, getD-tableOf, few-arguments, binding-words}
 use Rattle.rows.specs.RowTests.{zeroFrom}
 use Rattle.sound.specs.Sound.{valuesOk, tableOk}
-use Rattle.sound.proofs.Facts.{TermRow, EntryRow, RowFacts}
+use Rattle.sound.proofs.Facts.{RowFacts}
 use Rattle.sound.proofs.Padded.{to-padded, from-padded, rows-read, row-padded}
 use Rattle.sound.proofs.State.{Fits}
 use Rattle.sound.proofs.StateTests.{node-tests, terms-tests, arity-tests, table-tests}
@@ -65,12 +64,12 @@ module _ (lim : Limits) (w : Loaded) (fits : Fits lim w) where
       tests lim s .1 (
         ranges lim s .1 (some, few, omega arith, omega arith, omega arith, rw length-take (omega arith)),
         terms-tests (w .termRows) (w .bindingWords) (w .terms) .1 (λ t l. (
-            node-tests b t (nodeOf (w .termRows) t) .1 (
-              f .term-row t l .in-range,
-              le-trans (few-arguments (w .termRows) t) (f .term-row t l .count),
-              arity t l,
-            ),
-            f .binding t l,
+          node-tests b t (nodeOf (w .termRows) t) .1 (
+            f .term-row t l .in-range,
+            le-trans (few-arguments (w .termRows) t) (f .term-row t l .count),
+            arity t l,
+          ),
+          f .binding t l,
         )),
         no-cycle,
         table-tests b (s .bound) (w .entryRows) (w .entries) .1
@@ -94,12 +93,12 @@ module _ (lim : Limits) (w : Loaded) (fits : Fits lim w) where
       let table : _ = table-tests b (s .bound) (w .entryRows) (w .entries) .0 (g .3) in (
         record {
           term-row = λ t l. record {
-              count = fits .term-counts t l;
-              row = ap (λ x. take termWords (drop (termWords * t) x)) (holds .term-words) ∙
-                  row-padded nodeWords termWords var _ b (wide-nodes lim s f) t (omega arith) ∙
-                  ap nodeWords (getD-bookOf (w .termRows) (w .terms) t var l);
-              in-range = node-tests b t (nodeOf (w .termRows) t) .0 (term t l .0) .0;
-            };
+            count = fits .term-counts t l;
+            row = ap (λ x. take termWords (drop (termWords * t) x)) (holds .term-words) ∙
+                row-padded nodeWords termWords var _ b (wide-nodes lim s f) t (omega arith) ∙
+                ap nodeWords (getD-bookOf (w .termRows) (w .terms) t var l);
+            in-range = node-tests b t (nodeOf (w .termRows) t) .0 (term t l .0) .0;
+          };
           one-arity = arity-tests (w .termRows) (w .terms) .1 (λ t l. node-tests b t (nodeOf (w .termRows) t) .0 (term t l .0) .2);
           no-more-terms = subst (λ x. T (zeroFrom x (termWords * w .terms))) (sym (holds .term-words))
               (from-padded _ _ _ (length-rows nodeWords termWords var b (wide-nodes lim s f) ∙ ap (λ n. termWords * n) terms));
@@ -109,13 +108,13 @@ module _ (lim : Limits) (w : Loaded) (fits : Fits lim w) where
           line = rw entries at (g .5);
           no-more-lines = subst (λ x. T (zeroFrom x (w .lines))) (sym (holds .line-words)) (from-padded _ _ _ (sym (holds .lines-count)));
           entry-row = λ i l. record {
-              count = fits .entry-counts i l;
-              row = ap (λ x. take entryRowWords (drop (entryRowWords * i) x)) (holds .entry-words) ∙
-                  row-padded entryWords entryRowWords (holeAt 0 0 0) _ (s .entries) (wide-entries lim s f) i (omega arith) ∙
-                  ap entryWords (getD-tableOf (w .entryRows) (w .entries) i (holeAt 0 0 0) l);
-              left = rw terms at (table .0 i l .0);
-              right = rw terms at (table .0 i l .1);
-            };
+            count = fits .entry-counts i l;
+            row = ap (λ x. take entryRowWords (drop (entryRowWords * i) x)) (holds .entry-words) ∙
+                row-padded entryWords entryRowWords (holeAt 0 0 0) _ (s .entries) (wide-entries lim s f) i (omega arith) ∙
+                ap entryWords (getD-tableOf (w .entryRows) (w .entries) i (holeAt 0 0 0) l);
+            left = rw terms at (table .0 i l .0);
+            right = rw terms at (table .0 i l .1);
+          };
           no-more-entries = subst (λ x. T (zeroFrom x (entryRowWords * w .entries))) (sym (holds .entry-words))
               (from-padded _ _ _ (length-rows entryWords entryRowWords (holeAt 0 0 0) (s .entries) (wide-entries lim s f) ∙ ap (λ n. entryRowWords * n) entries));
         },

@@ -1,14 +1,14 @@
 -- Words that are rows, one after the other, and zeros behind them. Assumes nothing.
-use mathlib.Core.Path.{_≡_, refl, sym, ap, ap₂, _∙_}
-use mathlib.Core.List.{List, [], _∷_, _++_, map}
+use mathlib.Core.Path.{_≡_, refl, sym, ap₂}
+use mathlib.Core.List.{List, [], _∷_, map}
 use Prim.Native.Nat.{ℕ, zero, suc, _+_, _*_, _-_, _≤_, _<_, zero-le, suc-le-suc}
 use native.Mathlib.Nat.{mul-zero, mul-suc, add-zero, add-suc, suc-add, add-comm}
 use native.Mathlib.Omega.{arith}
 use lib.ListN.{length, getD, take, drop, replicate, take-append-drop, length-drop}
-use lib.Seq.{take-add, drop-drop, take-at, drop-at, length-take-le}
-use lib.Dec.{T, eqb, eqb→eq, eqb-refl}
+use lib.Seq.{take-add, drop-drop, drop-at, length-take-le}
+use lib.Dec.{T, eqb, eqb→eq}
 use Rattle.model.specs.Lists.{all, from, concatMap, padded}
-use Rattle.theory.proofs.Lists.Laws.{and-left, and-right, and-both}
+use Rattle.theory.proofs.Lists.Laws.{and-left, and-right}
 use Rattle.theory.proofs.Lists.Rows.{Wide, row}
 use Rattle.rows.specs.RowTests.{zeroFrom}
 
@@ -44,7 +44,7 @@ rows-read f g w words i (suc n) h =
     let first : take w (drop (w * i) words) ≡ f (g i) = rw add-zero at (h 0 (suc-le-suc zero-le)) in
     let behind : concatMap f (map g (from (suc i) n)) ≡ take (w * n) (drop (w * suc i) words) =
     rows-read f g w words (suc i) n (λ j l. rw (suc-add, ← add-suc) (h (suc j) (suc-le-suc l))) in
-    rw (behind, ← first, mul-suc, mul-suc, add-comm (w * n) w, take-add w (w * n) (drop (w * i) words), drop-drop)
+    rw (behind, ← first, mul-suc w i, mul-suc w n, add-comm (w * n) w, take-add w (w * n) (drop (w * i) words), drop-drop)
 
 -- row i of padded rows
 pub row-padded : {A : Type 0} (f : A → List ℕ) (w : ℕ) (d : A) (n : ℕ) (xs : List A) → Wide f w d xs → (i : ℕ) → i < length xs

@@ -1,14 +1,14 @@
 -- Loaded words are the words of a state exactly when they are so part by part. Assumes nothing.
 use mathlib.Core.Path.{_≡_, ap}
 use mathlib.Core.List.{List, [], _∷_, _++_, map}
-use Prim.Native.Nat.{ℕ, suc, _+_, _*_, _≤_, _<_, zero-le}
+use Prim.Native.Nat.{ℕ, _*_, _≤_, zero-le}
 use native.Mathlib.Omega.{arith}
 use lib.ListN.{length, getD, take, drop}
 use lib.Seq.{take-at, drop-at}
 use Rattle.model.specs.Limits.{Limits, maxArity}
 use Rattle.model.specs.Lists.{concatMap, padded}
 use Rattle.model.specs.Term.{Node, var, app, arguments}
-use Rattle.model.specs.Table.{Kind, hole, common, Entry, entry, holeAt}
+use Rattle.model.specs.Table.{Kind, hole, common, entry, holeAt}
 use Rattle.model.specs.Step.{State}
 use Rattle.model.specs.Area.{termWords, entryRowWords, nodeWords, bindingWord, kindWords, entryWords, areaWords}
 use Rattle.theory.proofs.Soundness.Facts.{SoundFacts}

@@ -1,5 +1,4 @@
 -- The tests of `model` on a loaded state, row by row. Assumes nothing.
-use mathlib.Core.Path.{_≡_}
 use mathlib.Core.List.{List}
 use mathlib.Core.Option.{none}
 use mathlib.Core.Bool.{Bool, _&&_}
@@ -13,7 +12,7 @@ use Rattle.model.specs.Term.{Node, var, app, arguments, Book, Bindings, root}
 use Rattle.model.specs.Table.{Entry, Table, entryOf}
 use Rattle.model.specs.BookBytes.{arityFits}
 use Rattle.model.specs.Area.{entryRowWords, nodeOk, bindingOk, termsOk, kindOk, entryOk}
-use Rattle.theory.proofs.Lists.Conjunctions.{and₂, and₃, and₄}
+use Rattle.theory.proofs.Lists.Conjunctions.{and₂, and₄}
 use Rattle.theory.proofs.Lists.From.{all-map-from}
 use Rattle.theory.proofs.Soundness.Terms.{all-below, below-all}
 use Rattle.layout.specs.Rows.{at, nodeOf, bookOf, bindingOf, boundOf, loadedEntry, tableOf}
@@ -79,8 +78,8 @@ module _ (b : Book) (β : Bindings) (rows : List ℕ) (m : ℕ) where
       let entries : _ = all-map-from (loadedEntry rows) (entryOk b β es) m in
       let values : _ = all-map-from (loadedEntry rows) (valuesOk b β es) m in (
         λ h. (
-            λ i l. let g : _ = entry-tests b β es (loadedEntry rows i) .0 (entries .0 h i l) in (g .0, g .1),
-            values .1 (λ i l. entry-tests b β es (loadedEntry rows i) .0 (entries .0 h i l) .2),
+          λ i l. let g : _ = entry-tests b β es (loadedEntry rows i) .0 (entries .0 h i l) in (g .0, g .1),
+          values .1 (λ i l. entry-tests b β es (loadedEntry rows i) .0 (entries .0 h i l) .2),
         ),
         λ h. entries .1 (λ i l. entry-tests b β es (loadedEntry rows i) .1 (h .0 i l .0, h .0 i l .1, values .0 (h .1) i l)),
       )

@@ -1,9 +1,9 @@
 -- The tests of the header and of the rows say exactly the facts of Facts.antt. Assumes nothing.
 use mathlib.Core.Path.{_≡_}
 use mathlib.Core.List.{List}
-use mathlib.Core.Bool.{Bool, _&&_}
+use mathlib.Core.Bool.{Bool}
 use mathlib.Core.Logic.{_↔_}
-use Prim.Native.Nat.{ℕ, _+_, _*_, _<_}
+use Prim.Native.Nat.{ℕ, _+_, _*_}
 use lib.ListN.{length, take, drop}
 use lib.Dec.{T, ltb, leb, leb→le, le→leb}
 use Rattle.model.specs.Limits.{Limits, maxArity}

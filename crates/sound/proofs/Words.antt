@@ -1,17 +1,16 @@
 -- The words of an area: they are the parts that are loaded, and an area of bytes begins with a state's bytes exactly when
 -- the loaded words are the state's. Assumes nothing.
-use mathlib.Core.Path.{_≡_, refl, sym, ap, _∙_}
-use mathlib.Core.List.{List, [], _∷_, _++_, append-assoc}
+use mathlib.Core.Path.{_≡_, refl, sym, _∙_}
+use mathlib.Core.List.{List, [], _∷_, append-assoc}
 use Prim.Native.Nat.{ℕ, _+_, _*_, _≤_}
 use native.Mathlib.Nat.{zero-add}
-use native.Mathlib.Omega.{arith}
-use lib.ListN.{length, take}
+use lib.ListN.{length}
 use lib.Dec.{T}
 use Rattle.leb128.specs.Laws.{areBytes}
 use Rattle.model.specs.Limits.{Limits}
-use Rattle.model.specs.Lists.{from, concatMap}
+use Rattle.model.specs.Lists.{from}
 use Rattle.model.specs.Step.{State}
-use Rattle.model.specs.Area.{wordSize, toBytes, headerWords, termWords, entryRowWords, bindingsAt, linesAt, entriesAt, areaLength, areaWords, areaBytes, word, wordsAt, stateOf}
+use Rattle.model.specs.Area.{headerWords, termWords, entryRowWords, bindingsAt, linesAt, entriesAt, areaLength, areaWords, areaBytes, word, wordsAt, stateOf}
 use Rattle.theory.specs.Modest.{Modest}
 use Rattle.theory.proofs.Soundness.Facts.{SoundFacts}
 use Rattle.theory.proofs.Lists.Rows.{map-from}

@@ -69,52 +69,45 @@ entry-row rows n i =
       λ f. four .1 (le→leb _ _ (f .count), eq-numbers _ _ (f .row), f .left, f .right),
     )
 
--- all rows
 module _ (w : Loaded) where
+  -- the test of a binding
   abbrev bindingTest : ℕ → Bool
   bindingTest t = bindingOk (bookOf (w .termRows) (w .terms)) (nodeOf (w .termRows) t) (bindingOf (w .bindingWords) t)
 
-  abbrev lineTest : Bool
-  lineTest = all (λ i. ltb i (w .entries)) (take (w .lines) (w .lineWords))
-
-  -- the tests one by one
-  row-tests : T (rowsOk w) ↔
-      ((T (all (termRowOk (w .termRows)) (from 0 (w .terms))) × T (oneArity (bookOf (w .termRows) (w .terms))) ×
-      T (zeroFrom (w .termRows) (termWords * w .terms))) ×
-      (T (all bindingTest (from 0 (w .terms))) × T (zeroFrom (w .bindingWords) (w .terms))) ×
-      (T lineTest × T (zeroFrom (w .lineWords) (w .lines))) ×
-      (T (all (entryRowOk (w .entryRows) (w .terms)) (from 0 (w .entries))) × T (zeroFrom (w .entryRows) (entryRowWords * w .entries))))
+  -- all rows
+  pub row-facts : T (rowsOk w) ↔ RowFacts w
   unfolding rowsOk termRowsOk bindingsOk linesOk entryRowsOk
-  row-tests =
+  row-facts =
+      let termTest : ℕ → Bool = termRowOk (w .termRows) in
+      let entryTest : ℕ → Bool = entryRowOk (w .entryRows) (w .terms) in
       let four : _ =
       and₄ (termRowsOk (w .termRows) (w .terms)) (bindingsOk (w .termRows) (w .bindingWords) (w .terms)) (linesOk (w .lineWords) (w .lines) (w .entries))
       (entryRowsOk (w .entryRows) (w .entries) (w .terms)) in
-      let terms : _ = and₃ (all (termRowOk (w .termRows)) (from 0 (w .terms))) (oneArity (bookOf (w .termRows) (w .terms))) (zeroFrom (w .termRows) (termWords * w .terms)) in
+      let terms : _ =
+      and₃ (all termTest (from 0 (w .terms))) (oneArity (bookOf (w .termRows) (w .terms))) (zeroFrom (w .termRows) (termWords * w .terms)) in
       let bindings : _ = and₂ (all bindingTest (from 0 (w .terms))) (zeroFrom (w .bindingWords) (w .terms)) in
-      let lines : _ = and₂ lineTest (zeroFrom (w .lineWords) (w .lines)) in
-      let entries : _ = and₂ (all (entryRowOk (w .entryRows) (w .terms)) (from 0 (w .entries))) (zeroFrom (w .entryRows) (entryRowWords * w .entries)) in (
-        λ h. let g : _ = four .0 h in (terms .0 (g .0), bindings .0 (g .1), lines .0 (g .2), entries .0 (g .3)),
-        λ g. four .1 (terms .1 (g .0), bindings .1 (g .1), lines .1 (g .2), entries .1 (g .3)),
+      let lines : _ = and₂ (all (λ i. ltb i (w .entries)) (take (w .lines) (w .lineWords))) (zeroFrom (w .lineWords) (w .lines)) in
+      let entries : _ = and₂ (all entryTest (from 0 (w .entries))) (zeroFrom (w .entryRows) (entryRowWords * w .entries)) in (
+        λ h. let g : _ = four .0 h in
+            let t : _ = terms .0 (g .0) in
+            let b : _ = bindings .0 (g .1) in
+            let l : _ = lines .0 (g .2) in
+            let e : _ = entries .0 (g .3) in
+            record {
+              term-row = λ i k. term-row (w .termRows) i .0 (all-below termTest (w .terms) (t .0) i k);
+              one-arity = t .1;
+              no-more-terms = t .2;
+              binding = all-below bindingTest (w .terms) (b .0);
+              no-more-bindings = b .1;
+              line = l .0;
+              no-more-lines = l .1;
+              entry-row = λ i k. entry-row (w .entryRows) (w .terms) i .0 (all-below entryTest (w .entries) (e .0) i k);
+              no-more-entries = e .1;
+            },
+        λ f. four .1 (
+          terms .1 (below-all termTest (w .terms) (λ i k. term-row (w .termRows) i .1 (f .term-row i k)), f .one-arity, f .no-more-terms),
+          bindings .1 (below-all bindingTest (w .terms) (f .binding), f .no-more-bindings),
+          lines .1 (f .line, f .no-more-lines),
+          entries .1 (below-all entryTest (w .entries) (λ i k. entry-row (w .entryRows) (w .terms) i .1 (f .entry-row i k)), f .no-more-entries),
+        ),
       )
-
-  pub row-facts : T (rowsOk w) ↔ RowFacts w
-  row-facts = (
-    λ h. let g : _ = row-tests .0 h in
-        record {
-          term-row = λ t l. term-row (w .termRows) t .0 (all-below (termRowOk (w .termRows)) (w .terms) (g .0 .0) t l);
-          one-arity = g .0 .1;
-          no-more-terms = g .0 .2;
-          binding = all-below bindingTest (w .terms) (g .1 .0);
-          no-more-bindings = g .1 .1;
-          line = g .2 .0;
-          no-more-lines = g .2 .1;
-          entry-row = λ i l. entry-row (w .entryRows) (w .terms) i .0 (all-below (entryRowOk (w .entryRows) (w .terms)) (w .entries) (g .3 .0) i l);
-          no-more-entries = g .3 .1;
-        },
-    λ f. row-tests .1 (
-      (below-all (termRowOk (w .termRows)) (w .terms) (λ t l. term-row (w .termRows) t .1 (f .term-row t l)), f .one-arity, f .no-more-terms),
-      (below-all bindingTest (w .terms) (f .binding), f .no-more-bindings),
-      (f .line, f .no-more-lines),
-      (below-all (entryRowOk (w .entryRows) (w .terms)) (w .entries) (λ i l. entry-row (w .entryRows) (w .terms) i .1 (f .entry-row i l)), f .no-more-entries),
-    ),
-  )

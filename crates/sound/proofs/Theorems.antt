@@ -1,7 +1,7 @@
 -- The theorems of specs/Sound.antt: soundness is the chain of tests, and the loaded state is the area's. Assumes nothing.
 use mathlib.Core.Path.{_≡_, refl, subst}
 use mathlib.Core.List.{List}
-use mathlib.Core.Bool.{Bool, true, false, _&&_}
+use mathlib.Core.Bool.{_&&_}
 use mathlib.Core.Logic.{_↔_}
 use Prim.Native.Nat.{ℕ}
 use lib.Dec.{T}
@@ -11,7 +11,7 @@ use Rattle.model.specs.Term.{acyclic}
 use Rattle.model.specs.Step.{State}
 use Rattle.model.specs.Area.{areaWords, soundState, sound, stateOf}
 use Rattle.theory.specs.Modest.{Modest}
-use Rattle.theory.proofs.Lists.Laws.{true-T}
+use Rattle.theory.proofs.Lists.Laws.{true-T, same-test}
 use Rattle.theory.proofs.Lists.Conjunctions.{and₂, and₃}
 use Rattle.theory.proofs.Soundness.Facts.{SoundFacts}
 use Rattle.theory.proofs.Soundness.Test.{sound-facts, facts-sound}
@@ -85,13 +85,6 @@ module _ (lim : Limits) (m : Modest lim) (area : List ℕ) where
         },
         chain w .1 (row-facts w .1 (g .0), g .1, g .2),
       )
-
--- two tests that hold together are the same
-same-test : (a b : Bool) → (T a → T b) → (T b → T a) → a ≡ b
-same-test true true f g = refl
-same-test true false f g = absurd (f tt)
-same-test false true f g = absurd (g tt)
-same-test false false f g = refl
 
 pub sound-by-parts : SoundByParts
 sound-by-parts lim m area bytes =

@@ -101,8 +101,10 @@ holds-fits lim w s f h =
       few-terms = omega arith;
       few-entries = omega arith;
       few-lines = omega arith;
-      term-counts = λ t l. rw (h .term-words, padded-row nodeWords termWords var (termWords * lim .maxTerms) (s .book) (wide-nodes lim s f) t 1 (omega arith) (omega arith))
+      term-counts = λ t l.
+          rw (h .term-words, padded-row nodeWords termWords var _ (s .book) (wide-nodes lim s f) t 1 (omega arith) (omega arith))
           (node-count (getD (s .book) t var) (f .formed .small-arity t (omega arith)));
-      entry-counts = λ i l. rw (h .entry-words, padded-row entryWords entryRowWords (holeAt 0 0 0) (entryRowWords * s .capacity) (s .entries) (wide-entries lim s f) i 4 (omega arith) (omega arith))
+      entry-counts = λ i l.
+          rw (h .entry-words, padded-row entryWords entryRowWords (holeAt 0 0 0) _ (s .entries) (wide-entries lim s f) i 4 (omega arith) (omega arith))
           (kind-count (entry (s .entries) i .kind) (entry (s .entries) i .sameAs ∷ []) (entry-arity lim s f i (omega arith)));
     }

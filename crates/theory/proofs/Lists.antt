@@ -3,3 +3,4 @@ pub mod Pigeonhole
 pub mod Conjunctions
 pub mod Rows
 pub mod AreBytes
+pub mod From

@@ -54,7 +54,7 @@ module _ (area : List ℕ) (bytes : T (areBytes area)) where
       rw long at (bytes-of-their-word xs (bytes-take wordSize (drop (wordSize * i) area) (bytes-drop (wordSize * i) area bytes)))
 
   -- the bytes of the words that were loaded
-  loaded-bytes : (start n : ℕ) → wordSize * (start + n) ≤ length area
+  pub loaded-bytes : (start n : ℕ) → wordSize * (start + n) ≤ length area
       → concatMap (toBytes wordSize) (wordsAt area start n) ≡ take (wordSize * n) (drop (wordSize * start) area)
   unfolding wordsAt from concatMap
   loaded-bytes start zero h = refl

@@ -1,3 +1,4 @@
 pub mod Elements
 pub mod Runs
 pub mod Laws
+pub mod Parts

@@ -2,10 +2,10 @@
 use mathlib.Core.Path.{_≡_, ap, sym, _∙_}
 use mathlib.Core.List.{List, _++_}
 use mathlib.Core.Bool.{true, _&&_}
-use Prim.Native.Nat.{ℕ, _*_, _≤_}
+use Prim.Native.Nat.{ℕ, _*_, _≤_, _<_}
 use native.Mathlib.Omega.{arith}
 use borrow.Author.Tests.{le-leb, leb-true}
-use lib.ListN.{length, take, drop, take-append-drop, length-append, length-drop}
+use lib.ListN.{length, getD, take, drop, take-append-drop, length-append, length-drop}
 use lib.Seq.{take-at, drop-at}
 use lib.Dec.{T, leb}
 use Rattle.model.specs.Limits.{Limits}
@@ -38,12 +38,17 @@ module _ (lim : Limits) where
       let n : ℕ = areaLength lim (s .capacity) in
       sym (take-append-drop n area) ∙ ap (λ x. x ++ drop n area) (c .bytes)
 
+  -- the words of an area that carries a sound state are that state's
+  pub carried-word : (s : State) (area : List ℕ) → Modest lim → SoundFacts lim s → Carries lim s area
+      → (i : ℕ) → i < length (areaWords lim s) → word area i ≡ getD (areaWords lim s) i 0
+  unfolding areaBytes
+  carried-word s area m f c i l =
+      ap (λ x. word x i) (carried-area s area c) ∙
+      word-at (areaWords lim s) (drop (areaLength lim (s .capacity)) area) (below-areaWords lim s m f) i l
+
   -- an area that carries a sound state holds it and is sound, and a sound area carries the state that it holds
   pub carried-state : (s : State) (area : List ℕ) → Modest lim → SoundFacts lim s → Carries lim s area → stateOf area lim ≡ s
-  unfolding areaBytes
-  carried-state s area m f c =
-      read-state lim s f area (λ i l. ap (λ x. word x i) (carried-area s area c) ∙
-      word-at (areaWords lim s) (drop (areaLength lim (s .capacity)) area) (below-areaWords lim s m f) i l)
+  carried-state s area m f c = read-state lim s f area (carried-word s area m f c)
 
   pub carried-sound : (s : State) (area : List ℕ) → Modest lim → SoundFacts lim s → Carries lim s area → sound lim area ≡ true
   unfolding sound

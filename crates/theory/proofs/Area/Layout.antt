@@ -58,16 +58,16 @@ module _ (lim : Limits) (s : State) (f : SoundFacts lim s) where
   abbrev entriesPart : List ℕ
   entriesPart = padded (entryRowWords * s .capacity) (concatMap entryWords (s .entries))
 
-  length-nodes : length nodesPart ≡ termWords * lim .maxTerms
+  pub length-nodes : length nodesPart ≡ termWords * lim .maxTerms
   length-nodes = length-padded _ _ (rw (length-rows nodeWords termWords var (s .book) wide-nodes) (omega arith))
 
-  length-bound : length boundPart ≡ lim .maxTerms
+  pub length-bound : length boundPart ≡ lim .maxTerms
   length-bound = length-padded _ _ (rw length-map (omega arith))
 
-  length-lines : length linesPart ≡ lim .maxLines
+  pub length-lines : length linesPart ≡ lim .maxLines
   length-lines = length-padded _ _ (f .few-lines)
 
-  length-entries : length entriesPart ≡ entryRowWords * s .capacity
+  pub length-entries : length entriesPart ≡ entryRowWords * s .capacity
   length-entries =
       length-padded _ _ (rw (length-rows entryWords entryRowWords (holeAt 0 0 0) (s .entries) wide-entries) (omega arith))
 

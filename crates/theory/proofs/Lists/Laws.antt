@@ -34,6 +34,13 @@ pub not-T-false : (b : Bool) → (T b → ⊥) → b ≡ false
 not-T-false true h = absurd (h tt)
 not-T-false false h = refl
 
+-- two tests that hold together are the same
+pub same-test : (a b : Bool) → (T a → T b) → (T b → T a) → a ≡ b
+same-test true true f g = refl
+same-test true false f g = absurd (f tt)
+same-test false true f g = absurd (g tt)
+same-test false false f g = refl
+
 -- the index that `first` gives is `cond b 0 (suc n)`, where b is the first element's test and n its index behind: a bound
 cond-le : (b : Bool) {n m : ℕ} → n ≤ m → cond b 0 (suc n) ≤ suc m
 cond-le true h = zero-le

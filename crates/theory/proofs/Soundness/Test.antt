@@ -21,7 +21,7 @@ Ranges lim s =
     (1 ≤ s .capacity) × (s .capacity ≤ lim .maxCapacity) × (length (s .book) ≤ lim .maxTerms) ×
     (length (s .bound) ≡ length (s .book)) × (length (s .entries) ≤ s .capacity) × (length (s .lines) ≤ lim .maxLines)
 
-ranges : (lim : Limits) (s : State) → T (rangesOk lim s) ↔ Ranges lim s
+pub ranges : (lim : Limits) (s : State) → T (rangesOk lim s) ↔ Ranges lim s
 unfolding rangesOk
 ranges lim s =
     let six : _ =
@@ -33,7 +33,7 @@ ranges lim s =
     )
 
 -- a state is sound exactly when the parts pass
-tests : (lim : Limits) (s : State) → T (soundState lim s) ↔
+pub tests : (lim : Limits) (s : State) → T (soundState lim s) ↔
     (T (rangesOk lim s) × T (termsOk (s .book) (s .bound)) × T (Term.acyclic (s .book) (s .bound)) ×
     T (all (entryOk (s .book) (s .bound) (s .entries)) (s .entries)) × T (distinct (s .entries)) ×
     T (all (λ i. ltb i (length (s .entries))) (s .lines)))

@@ -1,0 +1,73 @@
+-- What loaded rows hold, one by one: the terms, the bindings and the entries. Assumes nothing.
+use mathlib.Core.Path.{_≡_, refl, sym, _∙_}
+use mathlib.Core.List.{List, map, map-map}
+use mathlib.Core.Bool.{Bool, true, false, cond}
+use mathlib.Core.Option.{Option, none, some}
+use Prim.Native.Nat.{ℕ, _+_, _*_, _-_, _≤_, _<_, zero-le}
+use native.Mathlib.Nat.{zero-add}
+use native.Mathlib.Omega.{arith}
+use borrow.Author.Tests.{eqb-true, eqb-false}
+use lib.ListN.{length, getD, take, drop, length-take}
+use lib.Seq.{length-take-le, getD-take}
+use lib.Dec.{eqb}
+use Rattle.model.specs.Lists.{from}
+use Rattle.model.specs.Term.{Node, var, app, arguments}
+use Rattle.model.specs.Table.{Entry}
+use Rattle.model.specs.Area.{termWords, bindingWord}
+use Rattle.theory.proofs.Lists.From.{length-map-from, getD-map-from}
+use Rattle.theory.proofs.Lists.Rows.{map-from}
+use Rattle.layout.specs.Rows.{at, nodeOf, bookOf, bindingOf, boundOf, loadedEntry, tableOf}
+
+module _ (words : List ℕ) (n : ℕ) where
+  -- as many as were asked for
+  pub length-bookOf : length (bookOf words n) ≡ n
+  unfolding bookOf
+  length-bookOf = length-map-from (nodeOf words) 0 n
+
+  pub length-boundOf : length (boundOf words n) ≡ n
+  unfolding boundOf
+  length-boundOf = length-map-from (bindingOf words) 0 n
+
+  pub length-tableOf : length (tableOf words n) ≡ n
+  unfolding tableOf
+  length-tableOf = length-map-from (loadedEntry words) 0 n
+
+  -- the one at place i
+  pub getD-bookOf : (i : ℕ) (d : Node) → i < n → getD (bookOf words n) i d ≡ nodeOf words i
+  unfolding bookOf
+  getD-bookOf i d h = rw zero-add at (getD-map-from (nodeOf words) 0 n i d h)
+
+  pub getD-boundOf : (i : ℕ) (d : Option ℕ) → i < n → getD (boundOf words n) i d ≡ bindingOf words i
+  unfolding boundOf
+  getD-boundOf i d h = rw zero-add at (getD-map-from (bindingOf words) 0 n i d h)
+
+  pub getD-tableOf : (i : ℕ) (d : Entry) → i < n → getD (tableOf words n) i d ≡ loadedEntry words i
+  unfolding tableOf
+  getD-tableOf i d h = rw zero-add at (getD-map-from (loadedEntry words) 0 n i d h)
+
+-- a term in a row has at most as many arguments as its count says
+few-at : (t : Bool) (s c : ℕ) (xs : List ℕ) → length (arguments (cond t var (app s (take c xs)))) ≤ c
+unfolding arguments
+few-at true s c xs = zero-le
+few-at false s c xs = rw length-take (omega arith)
+
+pub few-arguments : (rows : List ℕ) (t : ℕ) → length (arguments (nodeOf rows t)) ≤ at rows (termWords * t + 1)
+unfolding nodeOf
+few-arguments rows t =
+    let i = termWords * t in
+    few-at (eqb (at rows i) 0) (at rows i - 1) (at rows (i + 1)) (drop (i + 2) rows)
+
+-- the word of the binding in a word is that word
+word-at : (x : ℕ) (t : Bool) → eqb x 0 ≡ t → bindingWord (cond t none (some (x - 1))) ≡ x
+unfolding bindingWord
+word-at x true e = sym (eqb-true x 0 e)
+word-at x false e = let h : x ≡ 0 → ⊥ = eqb-false x 0 e in omega arith
+
+-- the words of the bindings in the first n words are those words
+pub binding-words : (words : List ℕ) (n : ℕ) → n ≤ length words → map bindingWord (boundOf words n) ≡ take n words
+unfolding boundOf bindingOf
+binding-words words n h =
+    let long : length (take n words) ≡ n = length-take-le n words h in
+    map-map bindingWord (bindingOf words) (from 0 n) ∙
+    (rw long at (map-from (λ t. bindingWord (bindingOf words t)) 0 (take n words) 0 (λ t l.
+    rw (zero-add, getD-take n words t 0 (omega arith)) (word-at (at words t) (eqb (at words t) 0) refl))))

@@ -1,0 +1,9 @@
+pub mod Facts
+pub mod Tests
+pub mod Padded
+pub mod State
+pub mod StateTests
+pub mod Parts
+pub mod Chain
+pub mod Words
+pub mod Theorems

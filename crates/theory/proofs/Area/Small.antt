@@ -58,7 +58,7 @@ below-kind b β es (common s args) l r h p q m =
 
 module _ (lim : Limits) (s : State) (m : Modest lim) (f : SoundFacts lim s) where
   -- the symbol of a root is in range
-  root-symbol : (t : ℕ) → t < length (s .book) → symbol (root (s .book) (s .bound) t) ≤ maxSymbol
+  pub root-symbol : (t : ℕ) → t < length (s .book) → symbol (root (s .book) (s .bound) t) ≤ maxSymbol
   unfolding root
   root-symbol t l = f .formed .small-symbol _ (deref-lt (s .book) (s .bound) (f .formed) (f .acyclic) t l)
 

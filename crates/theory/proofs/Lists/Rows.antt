@@ -36,6 +36,13 @@ module _ {A : Type 0} (f : A → List ℕ) (w : ℕ) (d : A) where
   length-rows (x ∷ xs) h =
       rw (length-append, h 0 (suc-le-suc zero-le), length-rows xs (λ i l. h (suc i) (suc-le-suc l)), mul-suc) (add-comm w (w * length xs))
 
+  -- a bound on it, where no row is wider than w
+  pub rows-short : (xs : List A) → ((i : ℕ) → i < length xs → length (f (getD xs i d)) ≤ w) → length (concatMap f xs) ≤ w * length xs
+  unfolding concatMap
+  rows-short [] h = zero-le
+  rows-short (x ∷ xs) h =
+      rw (length-append, mul-suc) (omega (arith, h 0 (suc-le-suc zero-le), rows-short xs (λ i l. h (suc i) (suc-le-suc l))))
+
   -- row i, with anything behind the rows
   pub row : (xs : List A) (rest : List ℕ) → Wide xs → (i : ℕ) → i < length xs
       → take w (drop (w * i) (concatMap f xs ++ rest)) ≡ f (getD xs i d)

@@ -55,7 +55,7 @@ module _ {R : ℕ → ℕ → Type 0} where
   both-cond false false e h g = g
 
   -- functions that agree on what is related give the same lists
-  pub both-map : (f g : ℕ → ℕ) → ((i j : ℕ) → R i j → f i ≡ g j) → {is js : List ℕ} → Both R is js → map f is ≡ map g js
+  pub both-map : {B : Type 0} (f g : ℕ → B) → ((i j : ℕ) → R i j → f i ≡ g j) → {is js : List ℕ} → Both R is js → map f is ≡ map g js
   both-map f g e none = refl
   both-map f g e (one {i = i} {j = j} h hs) = ap₂ _∷_ (e i j h) (both-map f g e hs)
 

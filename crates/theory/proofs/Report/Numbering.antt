@@ -215,12 +215,17 @@ module _ (b : Book) (β : Bindings) (es : Table) (right : TableRight b β es) (l
       (numbered-next es lines i met _ here (meets-all met (argumentClasses es (getD met i 0))) h))
       (λ e. numbering-whole i met (ltb-false i (length met) e) m h)
 
-  numbering : Numbering es lines (order es lines)
+  pub numbering : Numbering es lines (order es lines)
   unfolding order
   numbering =
       numbering-from (length es) 0 (meetAll [] (map (class es) lines)) (omega arith)
       (met-meetAll (length es) [] (map (class es) lines) (met-none (length es)) (classes-below b β es right lines present))
       (numbered-lines es lines)
+
+  -- no more is numbered than there are entries
+  pub order-short : length (order es lines) ≤ length es
+  order-short =
+      met-short b β es right (order es lines) (record { below = λ n l. numbering .classes n l .0; distinct = numbering .each-once })
 
 pub numbering-as-written : NumberingAsWritten
 numbering-as-written lim area h =

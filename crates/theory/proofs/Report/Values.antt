@@ -5,7 +5,7 @@ use Prim.Native.Nat.{ℕ, _<_}
 use native.Mathlib.Omega.{arith}
 use lib.ListN.{length, getD}
 use Rattle.model.specs.Limits.{Limits}
-use Rattle.model.specs.Term.{Book, Bindings, Tree, val}
+use Rattle.model.specs.Term.{Book, Bindings, val}
 use Rattle.model.specs.Table.{Table, entry}
 use Rattle.model.specs.Step.{State}
 use Rattle.model.specs.Pattern.{leftValue, rightValue}
@@ -14,8 +14,8 @@ use Rattle.theory.proofs.Soundness.Facts.{SoundFacts, TableRight}
 use Rattle.theory.proofs.Report.Matching.{Both, none, one, both-length, both-intro, both-getD, Match}
 use Rattle.theory.proofs.Report.Pair.{tableReport, tableReport-same}
 
--- two lists whose trees are the same match in them
-maps-both : (f g : ℕ → Tree) (is js : List ℕ) → map f is ≡ map g js → Both (λ (i j : ℕ). f i ≡ g j) is js
+-- two lists of the same images match in them
+pub maps-both : {B : Type 0} (f g : ℕ → B) (is js : List ℕ) → map f is ≡ map g js → Both (λ (i j : ℕ). f i ≡ g j) is js
 maps-both f g [] [] e = none
 maps-both f g [] (j ∷ js) e = let z : _≡_ {A = ℕ} 0 1 = cc in absurd (omega arith)
 maps-both f g (i ∷ is) [] e = let z : _≡_ {A = ℕ} 0 1 = cc in absurd (omega arith)

@@ -51,6 +51,7 @@ pub use Rattle.theory.proofs.Steps.Line.{line}
 pub use Rattle.theory.proofs.Steps.Kept.{choice}
 pub use Rattle.theory.proofs.Patterns.Readings.{readings-as-written}
 pub use Rattle.theory.proofs.Report.Numbering.{numbering-as-written}
+pub use Rattle.theory.proofs.Report.Tells.{report-tells}
 pub use Rattle.theory.proofs.Runs.LineOnAreas.{line-on-areas}
 pub use Rattle.theory.proofs.Refusals.Deciding.{one-number}
 pub use Rattle.theory.proofs.Refusals.Calls.{demand-1}

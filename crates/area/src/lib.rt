@@ -1,21 +1,44 @@
-// An area in parts: its header, an array for each kind of row, and an entry's row as a struct (docs/LAYOUT.md).
+// An area in parts: where each part begins, its header, and an entry's row as a struct (docs/LAYOUT.md). The rows of a part
+// are loaded and stored by `words::load` and `words::store` at the word where it begins; the term rows begin at HEADER_WORDS.
 
 ghost use mathlib.Core.Path.{_≡_};
-ghost use mathlib.Core.List.{_++_};
 ghost use Prim.Native.Nat.{_+_, _*_, _≤_};
 ghost use lib.ListN.{length, take, drop};
 ghost use lib.Seq.{paste};
-ghost use Rattle.model.specs.Limits.{office};
-ghost use Rattle.model.specs.Area.{wordSize, headerWords, termWords, entryRowWords, bindingsAt, linesAt, entriesAt, areaLength, word, wordsAt};
+ghost use Rattle.model.specs.Area.{wordSize, headerWords, entryRowWords, bindingsAt, linesAt, entriesAt, areaLength, word};
+ghost use Rattle.theory.specs.Modest.{Modest};
+ghost use Rattle.layout.specs.Limits.{limitsOf};
 ghost use Rattle.words.specs.Words.{laid};
 ghost use Rattle.area.specs.Row.{wordsOf, rowOf};
 
-// The length that an area of this capacity needs, in bytes.
-pub fn needed_length(capacity: usize) -> usize
-    requires { ⌜ capacity ≤ office .maxCapacity ⌝ }
-    ensures { λ r. ⌜ r ≡ areaLength office capacity ⌝ }
+// The words at which the bindings, the lines and the entries begin.
+pub fn bindings_at(lim: layout::Limits) -> usize
+    requires { ⌜ Modest (limitsOf lim) ⌝ }
+    ensures { λ r. ⌜ r ≡ bindingsAt (limitsOf lim) ⌝ }
 {
-    4 * (11524 + 14 * capacity)
+    layout::HEADER_WORDS + layout::TERM_WORDS * lim.terms
+}
+
+pub fn lines_at(lim: layout::Limits) -> usize
+    requires { ⌜ Modest (limitsOf lim) ⌝ }
+    ensures { λ r. ⌜ r ≡ linesAt (limitsOf lim) ⌝ }
+{
+    bindings_at(lim) + lim.terms
+}
+
+pub fn entries_at(lim: layout::Limits) -> usize
+    requires { ⌜ Modest (limitsOf lim) ⌝ }
+    ensures { λ r. ⌜ r ≡ entriesAt (limitsOf lim) ⌝ }
+{
+    lines_at(lim) + lim.lines
+}
+
+// The length that an area of this capacity needs, in bytes.
+pub fn needed_length(lim: layout::Limits, capacity: usize) -> usize
+    requires { ⌜ Modest (limitsOf lim) × (capacity ≤ lim .capacity) ⌝ }
+    ensures { λ r. ⌜ r ≡ areaLength (limitsOf lim) capacity ⌝ }
+{
+    layout::WORD_BYTES * (entries_at(lim) + layout::ENTRY_WORDS * capacity)
 }
 
 // The header of an area.
@@ -27,86 +50,24 @@ pub struct Header {
 }
 
 pub fn load_header(area: &[u8]) -> Header
-    requires { ⌜ 16 ≤ length (now area) ⌝ }
+    requires { ⌜ wordSize * headerWords ≤ length (now area) ⌝ }
     ensures { λ r. ⌜ (r .capacity ≡ word (now (area .entry)) 0) × (r .terms ≡ word (now (area .entry)) 1)
         × (r .entries ≡ word (now (area .entry)) 2) × (r .lines ≡ word (now (area .entry)) 3) ⌝ }
 {
     Header {
         capacity: words::word_at(area, 0),
-        terms: words::word_at(area, 4),
-        entries: words::word_at(area, 8),
-        lines: words::word_at(area, 12),
+        terms: words::word_at(area, layout::WORD_BYTES),
+        entries: words::word_at(area, 2 * layout::WORD_BYTES),
+        lines: words::word_at(area, 3 * layout::WORD_BYTES),
     }
 }
 
 pub fn store_header(area: &mut [u8], h: Header)
-    requires { ⌜ 16 ≤ length (now area) ⌝ }
+    requires { ⌜ wordSize * headerWords ≤ length (now area) ⌝ }
     ensures { λ _. ⌜ now (area .exit) ≡ laid (now (area .entry)) 0 (wordsOf h) ⌝ }
 {
     let words = [h.capacity, h.terms, h.entries, h.lines];
     words::store(area, 0, &words);
-}
-
-// The rows of an area, an array of words for each kind: terms, bindings, lines, entries.
-
-pub fn load_terms(area: &[u8], terms: &mut [u32; 10240])
-    requires { ⌜ wordSize * bindingsAt office ≤ length (now area) ⌝ }
-    ensures { λ _. ⌜ now (terms .exit) ≡ wordsAt (now (area .entry)) headerWords (termWords * office .maxTerms) ⌝ }
-{
-    words::load(area, 4, terms);
-}
-
-pub fn store_terms(area: &mut [u8], terms: &[u32; 10240])
-    requires { ⌜ wordSize * bindingsAt office ≤ length (now area) ⌝ }
-    ensures { λ _. ⌜ now (area .exit) ≡ laid (now (area .entry)) headerWords (now (terms .entry)) ⌝ }
-{
-    words::store(area, 4, terms);
-}
-
-pub fn load_bindings(area: &[u8], bindings: &mut [u32; 1024])
-    requires { ⌜ wordSize * linesAt office ≤ length (now area) ⌝ }
-    ensures { λ _. ⌜ now (bindings .exit) ≡ wordsAt (now (area .entry)) (bindingsAt office) (office .maxTerms) ⌝ }
-{
-    words::load(area, 10244, bindings);
-}
-
-pub fn store_bindings(area: &mut [u8], bindings: &[u32; 1024])
-    requires { ⌜ wordSize * linesAt office ≤ length (now area) ⌝ }
-    ensures { λ _. ⌜ now (area .exit) ≡ laid (now (area .entry)) (bindingsAt office) (now (bindings .entry)) ⌝ }
-{
-    words::store(area, 10244, bindings);
-}
-
-pub fn load_lines(area: &[u8], lines: &mut [u32; 256])
-    requires { ⌜ wordSize * entriesAt office ≤ length (now area) ⌝ }
-    ensures { λ _. ⌜ now (lines .exit) ≡ wordsAt (now (area .entry)) (linesAt office) (office .maxLines) ⌝ }
-{
-    words::load(area, 11268, lines);
-}
-
-pub fn store_lines(area: &mut [u8], lines: &[u32; 256])
-    requires { ⌜ wordSize * entriesAt office ≤ length (now area) ⌝ }
-    ensures { λ _. ⌜ now (area .exit) ≡ laid (now (area .entry)) (linesAt office) (now (lines .entry)) ⌝ }
-{
-    words::store(area, 11268, lines);
-}
-
-// An area has as many rows of entries as its capacity. The array has room for these, and its rows behind them stay.
-pub fn load_entries(area: &[u8], capacity: usize, entries: &mut [u32])
-    requires { ⌜ (capacity ≤ office .maxCapacity) × (areaLength office capacity ≤ length (now area)) × (entryRowWords * capacity ≤ length (now entries)) ⌝ }
-    ensures { λ _. ⌜ now (entries .exit) ≡ wordsAt (now (area .entry)) (entriesAt office) (entryRowWords * capacity)
-        ++ drop (entryRowWords * capacity) (now (entries .entry)) ⌝ }
-{
-    let end = 14 * capacity;
-    words::load(area, 11524, &mut entries[..end]);
-}
-
-pub fn store_entries(area: &mut [u8], capacity: usize, entries: &[u32])
-    requires { ⌜ (capacity ≤ office .maxCapacity) × (areaLength office capacity ≤ length (now area)) × (entryRowWords * capacity ≤ length (now entries)) ⌝ }
-    ensures { λ _. ⌜ now (area .exit) ≡ laid (now (area .entry)) (entriesAt office) (take (entryRowWords * capacity) (now (entries .entry))) ⌝ }
-{
-    let end = 14 * capacity;
-    words::store(area, 11524, &entries[..end]);
 }
 
 // An entry: its pair of terms, kind (0 hole, 1 common), symbol, argument count, argument entries, and same-as.
@@ -116,16 +77,16 @@ pub struct Entry {
     pub kind: u32,
     pub symbol: u32,
     pub count: u32,
-    pub arguments: [u32; 8],
+    pub arguments: [u32; layout::MAX_ARITY],
     pub same_as: u32,
 }
 
 // The entry in row `i`.
 pub fn entry_at(rows: &[u32], i: usize) -> Entry
-    requires { ⌜ 14 * i + 14 ≤ length (now rows) ⌝ }
-    ensures { λ r. ⌜ rowOf r ≡ take 14 (drop (14 * i) (now (rows .entry))) ⌝ }
+    requires { ⌜ entryRowWords * i + entryRowWords ≤ length (now rows) ⌝ }
+    ensures { λ r. ⌜ rowOf r ≡ take entryRowWords (drop (entryRowWords * i) (now (rows .entry))) ⌝ }
 {
-    let at = 14 * i;
+    let at = layout::ENTRY_WORDS * i;
     Entry {
         left: rows[at],
         right: rows[at + 1],
@@ -160,8 +121,8 @@ fn put_words(rows: &mut [u32], at: usize, words: &[u32])
 
 // Puts the entry into row `i`.
 pub fn put_entry(rows: &mut [u32], i: usize, e: Entry)
-    requires { ⌜ 14 * i + 14 ≤ length (now rows) ⌝ }
-    ensures { λ _. ⌜ now (rows .exit) ≡ paste (now (rows .entry)) (14 * i) (rowOf e) 14 ⌝ }
+    requires { ⌜ entryRowWords * i + entryRowWords ≤ length (now rows) ⌝ }
+    ensures { λ _. ⌜ now (rows .exit) ≡ paste (now (rows .entry)) (entryRowWords * i) (rowOf e) entryRowWords ⌝ }
 {
     let a = e.arguments;
     let row = [
@@ -180,5 +141,5 @@ pub fn put_entry(rows: &mut [u32], i: usize, e: Entry)
         a[7],
         e.same_as,
     ];
-    put_words(rows, 14 * i, &row);
+    put_words(rows, layout::ENTRY_WORDS * i, &row);
 }

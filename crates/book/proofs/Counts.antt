@@ -23,9 +23,9 @@ Counted before counts = (s c : ℕ) → s ≤ maxSymbol → all (arityFits s c) 
 -- ---- the table follows the terms
 
 -- at first there are no terms
-pub counted-none : Counted [] (replicate 4096 0)
+pub counted-none : Counted [] (replicate (suc maxSymbol) 0)
 unfolding all fitsEntry
-counted-none s c h = rw (getD-replicate {A = ℕ} 4096 s 0 0 (omega arith))
+counted-none s c h = rw (getD-replicate {A = ℕ} (suc maxSymbol) s 0 0 (omega arith))
 
 -- a test that holds, or does not, beside another
 and-true : (b : Bool) → b && true ≡ b
@@ -62,7 +62,7 @@ entry-noted entry k c h = go (eqb c k) refl
     go false e = rw (and-false, fits-noted k c, ne-eqb (suc k) (suc c) (λ z. eqb-false c k e (omega arith)))
 
 -- one term more that may follow
-pub counted-more : (before : Book) (counts : List ℕ) (x : Node) → length counts ≡ 4096 → Suits counts x
+pub counted-more : (before : Book) (counts : List ℕ) (x : Node) → length counts ≡ suc maxSymbol → Suits counts x
     → Counted before counts → Counted (before ++ x ∷ []) (noted x counts)
 unfolding noted arityFits
 counted-more before counts var l h g s c m = rw (all-more, and-true) (g s c m)

@@ -6,7 +6,7 @@ use native.Mathlib.Omega.{arith}
 use lib.ListN.{length, drop, length-append}
 use Rattle.leb128.specs.Number.{maxGroups, write}
 use Rattle.model.specs.BookBytes.{bookBytes}
-use Rattle.book.specs.Rows.{bookOf}
+use Rattle.layout.specs.Rows.{bookOf}
 use Rattle.book.specs.Encoding.{termBytes, termsBytes}
 use Rattle.book.proofs.Over.{Laid, laid-more, laid-length, laid-front}
 use Rattle.book.proofs.Terms.{terms-more, length-terms-more, terms-grow, book-terms}

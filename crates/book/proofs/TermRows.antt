@@ -1,18 +1,18 @@
 -- A term's row behind the rows of a book: storing its numbers gives the rows of the book with the term. Assumes nothing.
 use mathlib.Core.Path.{_≡_, refl}
 use mathlib.Core.List.{List, [], _∷_, _++_, append-assoc, append-nil}
-use Prim.Native.Nat.{ℕ, zero, suc, _+_, _*_, _-_, _<_, _≤_}
+use Prim.Native.Nat.{ℕ, zero, suc, _+_, _*_, _-_, _≤_}
 use native.Mathlib.Nat.{add-zero, add-suc, suc-add, sub-zero, zero-sub, suc-sub-suc}
 use native.Mathlib.Omega.{arith}
 use lib.ListN.{length, drop, set, replicate, length-append, length-replicate, replicate-append-replicate}
 use lib.Seq.{sets, sets-eq, take-append-seam, drop-append-add}
-use Rattle.model.specs.Limits.{office}
+use Rattle.model.specs.Limits.{maxArity}
 use Rattle.model.specs.Lists.{concatMap, padded}
 use Rattle.model.specs.Term.{Node, var, app, Book}
 use Rattle.model.specs.Area.{termWords, nodeWords}
 use Rattle.theory.proofs.Lists.Laws.{concatMap-append}
 use Rattle.theory.proofs.Lists.Rows.{length-padded}
-use Rattle.book.specs.Rows.{rowsLength, bookRows}
+use Rattle.book.specs.Rows.{bookRows}
 use Rattle.book.specs.Parts.{rowNumbers, Suits}
 
 -- ---- stores
@@ -45,7 +45,7 @@ row-stored n w xs ys h g =
 row-of : (x : Node) → nodeWords x ≡ padded termWords (rowNumbers x)
 unfolding nodeWords rowNumbers padded
 row-of var = refl
-row-of (app s args) = let e : 10 - suc (suc (length args)) ≡ 8 - length args = omega arith in rw e
+row-of (app s args) = let e : termWords - suc (suc (length args)) ≡ maxArity - length args = omega arith in rw e
 
 -- the numbers of a node that may follow fill no more than its row
 few-numbers : (counts : List ℕ) (x : Node) → Suits counts x → length (rowNumbers x) ≤ termWords
@@ -64,13 +64,13 @@ module _ (b : Book) (x : Node) (counts : List ℕ) (h : Suits counts x) where
   length-more e = rw (words-more, length-append (concatMap nodeWords b) (padded termWords (rowNumbers x)), e, length-padded termWords (rowNumbers x) (few-numbers counts x h), length-append b (x ∷ [])) (omega arith)
 
   -- its rows
-  pub rows-more : length (concatMap nodeWords b) ≡ termWords * length b → length b < office .maxTerms
-      → sets (bookRows b) (termWords * length b) (rowNumbers x) ≡ bookRows (b ++ x ∷ [])
+  pub rows-more : (size : ℕ) → length (concatMap nodeWords b) ≡ termWords * length b → termWords * length b + termWords ≤ size
+      → sets (bookRows size b) (termWords * length b) (rowNumbers x) ≡ bookRows size (b ++ x ∷ [])
   unfolding bookRows
-  rows-more e l =
-      rw (← e, words-more) (row-stored rowsLength termWords (concatMap nodeWords b) (rowNumbers x) (few-numbers counts x h) (omega arith))
+  rows-more size e l =
+      rw (← e, words-more) (row-stored size termWords (concatMap nodeWords b) (rowNumbers x) (few-numbers counts x h) (omega arith))
 
 -- rows that are all zero are those of no terms
-pub rows-none : replicate rowsLength 0 ≡ bookRows []
+pub rows-none : (size : ℕ) → replicate size 0 ≡ bookRows size []
 unfolding bookRows padded concatMap
-rows-none = refl
+rows-none size = rw sub-zero

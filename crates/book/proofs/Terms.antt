@@ -11,14 +11,15 @@ use lib.ListN.{length, getD, take, drop, length-append, length-drop, length-map}
 use lib.Seq.{drop-cons, length-take-le}
 use lib.Dec.{T, leb, leb→le}
 use Rattle.leb128.specs.Number.{maxGroups, maxNumber, write}
-use Rattle.model.specs.Limits.{office, maxArity}
+use Rattle.model.specs.Limits.{maxArity}
 use Rattle.model.specs.Lists.{all, from, concatMap}
 use Rattle.model.specs.Area.{termWords}
 use Rattle.model.specs.Report.{numberBytes}
 use Rattle.model.specs.BookBytes.{nodeNumbers, bookBytes}
 use Rattle.theory.proofs.Lists.Laws.{concatMap-append, all-at, length-from, getD-from}
-use Rattle.theory.proofs.Lists.Conjunctions.{and₃}
-use Rattle.book.specs.Rows.{rowsLength, nodeOf, bookOf, encodable}
+use Rattle.theory.proofs.Lists.Conjunctions.{and₄}
+use Rattle.layout.specs.Rows.{nodeOf, bookOf}
+use Rattle.book.specs.Rows.{encodable}
 use Rattle.book.specs.Encoding.{smallWords, RowFits, runBytes, termBytes, termsBytes}
 use Rattle.book.proofs.Numbers.{numbers-append, numbers-first}
 
@@ -95,23 +96,23 @@ module _ (rows : List ℕ) where
 -- ---- what rows that can be encoded give
 
 module _ (rows : List ℕ) (n : ℕ) (h : T (encodable rows n)) where
-  -- its three tests
-  tests : T (leb n (office .maxTerms)) × T (all (λ t. leb (getD rows (termWords * t + 1) 0) maxArity) (from 0 n)) × smallWords rows
+  -- its four tests
+  tests : T (leb (termWords * n) (length rows)) × T (leb n maxNumber) × T (all (λ t. leb (getD rows (termWords * t + 1) 0) maxArity) (from 0 n)) × smallWords rows
   unfolding encodable smallWords
   tests =
-      and₃ (leb n (office .maxTerms)) (all (λ t. leb (getD rows (termWords * t + 1) 0) maxArity) (from 0 n))
+      and₄ (leb (termWords * n) (length rows)) (leb n maxNumber) (all (λ t. leb (getD rows (termWords * t + 1) 0) maxArity) (from 0 n))
       (all (λ w. leb w maxNumber) rows) .0 h
 
-  pub encodable-terms : n ≤ office .maxTerms
-  encodable-terms = leb→le n (office .maxTerms) (tests .0)
+  pub encodable-terms : n ≤ maxNumber
+  encodable-terms = leb→le n maxNumber (tests .1)
 
   pub encodable-small : smallWords rows
-  encodable-small = tests .2
+  encodable-small = tests .3
 
-  pub encodable-row : length rows ≡ rowsLength → (t : ℕ) → t < n → RowFits rows t
-  encodable-row e t l =
-      let few = all-at (λ t. leb (getD rows (termWords * t + 1) 0) maxArity) (from 0 n) 0 (tests .1) t (rw length-from l) in
+  pub encodable-row : (t : ℕ) → t < n → RowFits rows t
+  encodable-row t l =
+      let few = all-at (λ t. leb (getD rows (termWords * t + 1) 0) maxArity) (from 0 n) 0 (tests .2) t (rw length-from l) in
       record {
-        within = omega (arith, encodable-terms);
+        within = omega (arith, leb→le (termWords * n) (length rows) (tests .0));
         few = leb→le (getD rows (termWords * t + 1) 0) maxArity (rw (getD-from 0 n t 0 l, zero-add) at few);
       }

@@ -10,7 +10,7 @@ use Rattle.model.specs.Lists.{all, concatMap}
 use Rattle.model.specs.Area.{termWords}
 use Rattle.model.specs.Report.{numberBytes}
 use Rattle.model.specs.BookBytes.{nodeNumbers}
-use Rattle.book.specs.Rows.{nodeOf, bookOf}
+use Rattle.layout.specs.Rows.{nodeOf, bookOf}
 
 -- No word is above the limit of a number.
 unfoldable pub smallWords : List ℕ → Type 0

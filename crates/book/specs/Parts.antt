@@ -75,7 +75,7 @@ pub record TermIn (t : ℕ) (counts counts′ rows rows′ : List ℕ) (n : Node
   pub written : rows′ ≡ sets rows (termWords * t) (rowNumbers n)
   pub counted : counts′ ≡ noted n counts
 
--- The rows are those of the book, which has n terms.
-pub record BookIn (n : ℕ) (rows : List ℕ) (b : Book) : Type 0 where
+-- The rows, of `size` words, are those of the book, which has n terms.
+pub record BookIn (n size : ℕ) (rows : List ℕ) (b : Book) : Type 0 where
   pub as-many : length b ≡ n
-  pub written : rows ≡ bookRows b
+  pub written : rows ≡ bookRows size b

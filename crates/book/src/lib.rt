@@ -5,12 +5,15 @@ mod write;
 
 ghost use mathlib.Core.Path.{_≡_};
 ghost use mathlib.Core.List.{_++_};
-ghost use Prim.Native.Nat.{_≤_};
+ghost use Prim.Native.Nat.{_*_, _≤_};
 ghost use lib.ListN.{length, drop, replicate};
 ghost use lib.Dec.{T};
-ghost use Rattle.model.specs.Limits.{office};
+ghost use Rattle.model.specs.Area.{termWords};
 ghost use Rattle.model.specs.BookBytes.{parseBook, bookBytes};
-ghost use Rattle.book.specs.Rows.{rowsLength, bookRows, bookOf, encodable, refusalOf, decodedBook};
+ghost use Rattle.theory.specs.Modest.{Modest};
+ghost use Rattle.layout.specs.Limits.{limitsOf};
+ghost use Rattle.layout.specs.Rows.{bookOf};
+ghost use Rattle.book.specs.Rows.{bookRows, encodable, refusalOf, decodedBook};
 use parse::Part;
 use parse::Step;
 
@@ -20,14 +23,15 @@ pub struct Decoding {
     pub terms: u32,
 }
 
-// Decodes a book into rows that are all zero. After a refusal the rows hold what was decoded before it.
-pub fn decode(bytes: &[u8], rows: &mut [u32; 10240]) -> Decoding
-    requires { ⌜ now rows ≡ replicate rowsLength 0 ⌝ }
-    ensures refusal { λ r. ⌜ r .refusal ≡ refusalOf (parseBook office (now (bytes .entry))) ⌝ }
-    ensures terms { λ r. ⌜ r .terms ≡ length (decodedBook (parseBook office (now (bytes .entry)))) ⌝ }
-    ensures rows { λ r. ⌜ (r .refusal ≡ 0 → now (rows .exit) ≡ bookRows (decodedBook (parseBook office (now (bytes .entry))))) ⌝ }
+// Decodes a book into the rows of as many terms as the limit, which are all zero. After a refusal the rows hold what was
+// decoded before it.
+pub fn decode(bytes: &[u8], lim: layout::Limits, rows: &mut [u32]) -> Decoding
+    requires { ⌜ Modest (limitsOf lim) × (now rows ≡ replicate (termWords * lim .terms) 0) ⌝ }
+    ensures refusal { λ r. ⌜ r .refusal ≡ refusalOf (parseBook (limitsOf lim) (now (bytes .entry))) ⌝ }
+    ensures terms { λ r. ⌜ r .terms ≡ length (decodedBook (parseBook (limitsOf lim) (now (bytes .entry)))) ⌝ }
+    ensures rows { λ r. ⌜ (r .refusal ≡ 0 → now (rows .exit) ≡ bookRows (termWords * lim .terms) (decodedBook (parseBook (limitsOf lim) (now (bytes .entry))))) ⌝ }
 {
-    match parse::read_below(bytes, 0, 1025, 4) {
+    match parse::read_below(bytes, 0, lim.terms as u32 + 1, 4) {
         Part::Refused(n) => Decoding {
             refusal: n,
             terms: 0,
@@ -55,7 +59,7 @@ pub fn decode(bytes: &[u8], rows: &mut [u32; 10240]) -> Decoding
 }
 
 // How many bytes the first `terms` rows take as a book.
-pub fn encoded_length(rows: &[u32; 10240], terms: usize) -> usize
+pub fn encoded_length(rows: &[u32], terms: usize) -> usize
     requires { ⌜ T (encodable (now rows) terms) ⌝ }
     ensures { λ r. ⌜ r ≡ length (bookBytes (bookOf (now (rows .entry)) terms)) ⌝ }
 {
@@ -69,7 +73,7 @@ pub fn encoded_length(rows: &[u32; 10240], terms: usize) -> usize
 }
 
 // Encodes the first `terms` rows to the front of `out`, which is long enough, and gives the number of bytes.
-pub fn encode(rows: &[u32; 10240], terms: usize, out: &mut [u8]) -> usize
+pub fn encode(rows: &[u32], terms: usize, out: &mut [u8]) -> usize
     requires { ⌜ T (encodable (now rows) terms) × (length (bookBytes (bookOf (now rows) terms)) ≤ length (now out)) ⌝ }
     ensures count { λ r. ⌜ r ≡ length (bookBytes (bookOf (now (rows .entry)) terms)) ⌝ }
     ensures bytes { λ r. ⌜ now (out .exit) ≡ bookBytes (bookOf (now (rows .entry)) terms) ++ drop r (now (out .entry)) ⌝ }

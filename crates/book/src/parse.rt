@@ -3,11 +3,17 @@
 
 ghost use mathlib.Core.Path.{_≡_};
 ghost use mathlib.Core.List.{[]};
-ghost use Prim.Native.Nat.{suc, _≤_, _<_};
-ghost use lib.ListN.{getD, drop, set, replicate};
+ghost use Prim.Native.Nat.{suc, _+_, _*_, _≤_};
+ghost use lib.ListN.{length, getD, drop, set, replicate};
+ghost use Rattle.model.specs.Limits.{maxArity, maxSymbol};
+ghost use Rattle.model.specs.Area.{termWords};
 ghost use Rattle.model.specs.BookBytes.{parseArguments, parseTerms};
-ghost use Rattle.book.specs.Rows.{rowsLength};
 ghost use Rattle.book.specs.Parts.{parseBelow, parseCounted, parseTerm, partOf, fitsEntry, StepOf, ArgumentsIn, TermIn, BookIn};
+
+// A count of arguments, and a term's first number (0, or its symbol plus 1), are below these.
+const COUNTS: u32 = layout::MAX_ARITY as u32 + 1;
+
+const FIRST_NUMBERS: u32 = layout::SYMBOLS as u32 + 1;
 
 // A number and the position after it, or a refusal.
 pub enum Part {
@@ -39,13 +45,13 @@ pub fn read_below(bytes: &[u8], at: usize, limit: u32, refusal: u32) -> Part
 }
 
 // The `count` arguments of term `t`, into its row.
-fn read_arguments(bytes: &[u8], at: usize, t: u32, count: u32, rows: &mut [u32; 10240]) -> Step
-    requires { ⌜ (t < 1024) × (count ≤ 8) ⌝ }
+fn read_arguments(bytes: &[u8], at: usize, t: u32, count: u32, rows: &mut [u32]) -> Step
+    requires { ⌜ (termWords * t + termWords ≤ length (now rows)) × (count ≤ maxArity) ⌝ }
     ensures { λ r. ⌜ StepOf (now (bytes .entry)) (parseArguments t count (drop at (now (bytes .entry)))) (ArgumentsIn t count (now (rows .entry)) (now (rows .exit))) r ⌝ }
 {
     let mut next = at;
     let mut i = 0;
-    let first = 10 * (t as usize) + 2;
+    let first = layout::TERM_WORDS * (t as usize) + 2;
     while i < count {
         match read_below(bytes, next, t, 5) {
             Part::Value { value, next: after } => {
@@ -61,8 +67,8 @@ fn read_arguments(bytes: &[u8], at: usize, t: u32, count: u32, rows: &mut [u32; 
 
 // Notes that symbol `s` has `count` arguments, and says whether no other count was noted before. (Where one was, decoding
 // ends, and the table is not used again.)
-fn note_count(counts: &mut [u8; 4096], s: usize, count: u8) -> bool
-    requires { ⌜ (s < 4096) × (count ≤ 8) ⌝ }
+fn note_count(counts: &mut [u8; layout::SYMBOLS], s: usize, count: u8) -> bool
+    requires { ⌜ (s ≤ maxSymbol) × (count ≤ maxArity) ⌝ }
     ensures fits { λ r. ⌜ r ≡ fitsEntry (getD (now (counts .entry)) s 0) count ⌝ }
     ensures noted { λ r. ⌜ now (counts .exit) ≡ set (now (counts .entry)) s (suc count) ⌝ }
 {
@@ -75,24 +81,24 @@ fn note_count(counts: &mut [u8; 4096], s: usize, count: u8) -> bool
     seen == note
 }
 
-// Term `t` of symbol `s`, from its count on, into its row. A count is at most 8.
+// Term `t` of symbol `s`, from its count on, into its row.
 fn read_app(
     bytes: &[u8],
     at: usize,
     t: u32,
     s: u32,
-    counts: &mut [u8; 4096],
-    rows: &mut [u32; 10240],
+    counts: &mut [u8; layout::SYMBOLS],
+    rows: &mut [u32],
 ) -> Step
-    requires { ⌜ (t < 1024) × (s < 4096) ⌝ }
+    requires { ⌜ (termWords * t + termWords ≤ length (now rows)) × (s ≤ maxSymbol) ⌝ }
     ensures { λ r. ⌜ StepOf (now (bytes .entry)) (parseCounted (now (counts .entry)) t s (drop at (now (bytes .entry)))) (TermIn t (now (counts .entry)) (now (counts .exit)) (now (rows .entry)) (now (rows .exit))) r ⌝ }
 {
-    match read_below(bytes, at, 9, 4) {
+    match read_below(bytes, at, COUNTS, 4) {
         Part::Value { value, next } => {
             if !note_count(counts, s as usize, value as u8) {
                 return Step::Refused(6);
             }
-            let place = 10 * (t as usize);
+            let place = layout::TERM_WORDS * (t as usize);
             rows[place] = s + 1;
             rows[place + 1] = value;
             read_arguments(bytes, next, t, value, rows)
@@ -101,19 +107,18 @@ fn read_app(
     }
 }
 
-// Term `t`, into its row, which stays as it is where the term is a variable. Any other has its symbol plus 1 first, and a
-// symbol is at most 4,095.
+// Term `t`, into its row, which stays as it is where the term is a variable.
 fn read_term(
     bytes: &[u8],
     at: usize,
     t: u32,
-    counts: &mut [u8; 4096],
-    rows: &mut [u32; 10240],
+    counts: &mut [u8; layout::SYMBOLS],
+    rows: &mut [u32],
 ) -> Step
-    requires { ⌜ t < 1024 ⌝ }
+    requires { ⌜ termWords * t + termWords ≤ length (now rows) ⌝ }
     ensures { λ r. ⌜ StepOf (now (bytes .entry)) (parseTerm (now (counts .entry)) t (drop at (now (bytes .entry)))) (TermIn t (now (counts .entry)) (now (counts .exit)) (now (rows .entry)) (now (rows .exit))) r ⌝ }
 {
-    match read_below(bytes, at, 4097, 4) {
+    match read_below(bytes, at, FIRST_NUMBERS, 4) {
         Part::Value { value, next } => {
             if value == 0 {
                 return Step::Next(next);
@@ -125,11 +130,11 @@ fn read_term(
 }
 
 // The `count` terms of a book, into rows that are all zero.
-pub fn read_terms(bytes: &[u8], at: usize, count: u32, rows: &mut [u32; 10240]) -> Step
-    requires { ⌜ (count ≤ 1024) × (now rows ≡ replicate rowsLength 0) ⌝ }
-    ensures { λ r. ⌜ StepOf (now (bytes .entry)) (parseTerms count [] (drop at (now (bytes .entry)))) (BookIn count (now (rows .exit))) r ⌝ }
+pub fn read_terms(bytes: &[u8], at: usize, count: u32, rows: &mut [u32]) -> Step
+    requires { ⌜ (termWords * count ≤ length (now rows)) × (now rows ≡ replicate (length (now rows)) 0) ⌝ }
+    ensures { λ r. ⌜ StepOf (now (bytes .entry)) (parseTerms count [] (drop at (now (bytes .entry)))) (BookIn count (length (now (rows .entry))) (now (rows .exit))) r ⌝ }
 {
-    let mut counts = [0u8; 4096];
+    let mut counts = [0u8; layout::SYMBOLS];
     let mut next = at;
     let mut t = 0;
     while t < count {

@@ -6,7 +6,7 @@ ghost use lib.ListN.{length, take, drop};
 ghost use Rattle.leb128.specs.Number.{maxGroups, maxNumber, write};
 ghost use Rattle.model.specs.Area.{termWords};
 ghost use Rattle.model.specs.BookBytes.{nodeNumbers};
-ghost use Rattle.book.specs.Rows.{nodeOf};
+ghost use Rattle.layout.specs.Rows.{nodeOf};
 ghost use Rattle.book.specs.Encoding.{smallWords, RowFits, runBytes, termBytes, overAt};
 
 // How many of the words of row `t` are numbers of the term: 1 for a variable, else the symbol, the count and the arguments.
@@ -15,7 +15,7 @@ fn numbers_of(rows: &[u32], t: usize) -> usize
     ensures few { λ r. ⌜ r ≤ termWords ⌝ }
     ensures numbers { λ r. ⌜ nodeNumbers (nodeOf (now (rows .entry)) t) ≡ take r (drop (termWords * t) (now (rows .entry))) ⌝ }
 {
-    let start = 10 * t;
+    let start = layout::TERM_WORDS * t;
     if rows[start] == 0 {
         return 1;
     }
@@ -45,7 +45,7 @@ pub fn term_length(rows: &[u32], t: usize) -> usize
     ensures count { λ r. ⌜ r ≡ length (termBytes (now (rows .entry)) t) ⌝ }
 {
     let count = numbers_of(rows, t);
-    run_length(rows, 10 * t, count)
+    run_length(rows, layout::TERM_WORDS * t, count)
 }
 
 // Writes a number at place `at` of `out`, where there is room for it, and gives the place behind it.
@@ -81,5 +81,5 @@ pub fn put_term(rows: &[u32], t: usize, out: &mut [u8], at: usize) -> usize
     ensures bytes { λ r. ⌜ now (out .exit) ≡ overAt (now (out .entry)) at (termBytes (now (rows .entry)) t) ⌝ }
 {
     let count = numbers_of(rows, t);
-    put_run(rows, 10 * t, count, out, at)
+    put_run(rows, layout::TERM_WORDS * t, count, out, at)
 }

@@ -1,6 +1,6 @@
 -- Copying a book by way of its rows: what the decoder leaves can be encoded, and what the encoder then writes is the outcome
 -- of the call. Assumes nothing.
-use mathlib.Core.Path.{_≡_, refl, sym, ap, ap₂, _∙_}
+use mathlib.Core.Path.{_≡_, refl, sym, ap, _∙_}
 use mathlib.Core.List.{List, [], _∷_, _++_, map}
 use mathlib.Core.Option.{none}
 use Prim.Native.Nat.{ℕ, _+_, _*_, _≤_, _<_}
@@ -10,11 +10,13 @@ use lib.Dec.{T}
 use Rattle.leb128.specs.Number.{maxGroups}
 use Rattle.model.specs.Limits.{office}
 use Rattle.model.specs.Term.{Node, Book}
+use Rattle.model.specs.Area.{termWords}
 use Rattle.model.specs.BookBytes.{parseBook, bookBytes}
 use Rattle.model.specs.Call.{Outcome, refuse, accept, over, callCopy}
 use Rattle.theory.proofs.Soundness.Facts.{Formed}
 use Rattle.theory.proofs.Book.Round.{parsed-formed}
-use Rattle.book.specs.Rows.{rowsLength, bookRows, bookOf, encodable, refusalOf, decodedBook}
+use Rattle.layout.specs.Rows.{bookOf}
+use Rattle.book.specs.Rows.{bookRows, encodable, refusalOf, decodedBook}
 use Rattle.book.proofs.RowsBook.{rows-book, rows-encodable, book-bytes}
 use Rattle.fit.proofs.OpenCases.{decoded, copy-refused, copy-thirteen, copy-accepted}
 
@@ -38,27 +40,32 @@ copied-refused book out n e h =
 pub record Decoded (book rows : List ℕ) (terms : ℕ) : Type 0 where
   pub none-refused : refusalOf (parseBook office book) ≡ 0
   pub as-many : terms ≡ length (decodedBook (parseBook office book))
-  pub written : rows ≡ bookRows (decodedBook (parseBook office book))
+  pub written : rows ≡ bookRows (termWords * office .maxTerms) (decodedBook (parseBook office book))
 
 module _ {book rows : List ℕ} {terms : ℕ} (d : Decoded book rows terms) where
   -- the book
   abbrev the-book : Book
   the-book = decodedBook (parseBook office book)
 
+  -- it obeys the rules and has at most as many terms as the limit, so the rows have room for it
   formed : Formed the-book (map (λ (n : Node). none) the-book) × (length the-book ≤ office .maxTerms)
   formed = let p = decoded book (d .none-refused) in parsed-formed office book the-book (p .0) (p .1)
 
+  room : termWords * length the-book ≤ termWords * office .maxTerms
+  room = omega (arith, formed .1)
+
   -- the rows can be encoded
   pub decoded-encodable : T (encodable rows terms)
-  decoded-encodable = rw (d .written, d .as-many) (rows-encodable the-book (formed .0) (formed .1))
+  decoded-encodable =
+      rw (d .written, d .as-many) (rows-encodable (termWords * office .maxTerms) the-book (formed .0) room (omega (arith, formed .1)))
 
   -- they hold the book
   decoded-book : bookOf rows terms ≡ the-book
-  decoded-book = rw (d .written, d .as-many) (rows-book the-book (formed .0) (formed .1))
+  decoded-book = rw (d .written, d .as-many) (rows-book (termWords * office .maxTerms) the-book (formed .0) room)
 
   -- its bytes are few
-  pub decoded-few : length (bookBytes (bookOf rows terms)) ≤ maxGroups * (1 + rowsLength)
-  decoded-few = rw decoded-book (omega (arith, book-bytes the-book (formed .0) (formed .1)))
+  pub decoded-few : length (bookBytes (bookOf rows terms)) ≤ maxGroups * (1 + termWords * office .maxTerms)
+  decoded-few = rw decoded-book (omega (arith, book-bytes (termWords * office .maxTerms) the-book (formed .0) room, room))
 
   module _ (out : List ℕ) where
     -- an output that is too short

@@ -1,19 +1,18 @@
 -- What opening and copying a book answer, case by case, from the outcome of the decoder. Assumes nothing.
-use mathlib.Core.Path.{_≡_, refl, sym, ap, _∙_}
-use mathlib.Core.List.{List, [], _∷_, _++_}
-use mathlib.Core.Bool.{Bool, true, false, cond, not, _&&_}
-use Prim.Native.Nat.{ℕ, _+_, _*_, _≤_, _<_}
+use mathlib.Core.Path.{_≡_, refl, ap, _∙_}
+use mathlib.Core.List.{List, [], _∷_}
+use mathlib.Core.Bool.{Bool, true, false, _&&_}
+use Prim.Native.Nat.{ℕ, _*_, _≤_, _<_}
 use native.Mathlib.Omega.{arith}
-use lib.ListN.{length, drop}
-use lib.Dec.{T, eqb, leb}
-use borrow.Author.Tests.{le-leb, lt-leb, leb-true, leb-false, eqb-false}
+use lib.ListN.{length}
+use lib.Dec.{leb}
+use borrow.Author.Tests.{le-leb, lt-leb}
 use Rattle.model.specs.Limits.{office}
 use Rattle.model.specs.Lists.{concatMap}
 use Rattle.model.specs.Term.{Book}
-use Rattle.model.specs.Step.{opened}
 use Rattle.model.specs.BookBytes.{Parsed, parsed, unparsed, parseBook, bookBytes}
-use Rattle.model.specs.Area.{wordSize, toBytes, areaLength, areaBytes}
-use Rattle.model.specs.Call.{Outcome, refuse, accept, guard, over, emit, openParsed, callOpen, copyParsed, callCopy}
+use Rattle.model.specs.Area.{wordSize, termWords, toBytes, areaLength, areaBytes}
+use Rattle.model.specs.Call.{refuse, accept, guard, over, emit, openParsed, callOpen, copyParsed, callCopy}
 use Rattle.theory.proofs.Book.Round.{parsed-formed}
 use Rattle.theory.proofs.Book.Opening.{Positive, book-positive}
 use Rattle.book.specs.Rows.{bookRows, refusalOf, decodedBook}
@@ -25,17 +24,17 @@ use Rattle.fit.proofs.Opened.{opened-words}
 abbrev pub inRange : ℕ → Bool
 inRange capacity = leb 1 capacity && leb capacity (office .maxCapacity)
 
-pub in-range : (capacity : ℕ) → 1 ≤ capacity → capacity ≤ 2048 → inRange capacity ≡ true
-in-range capacity h g = rw (le-leb 1 capacity h, le-leb capacity 2048 g)
+pub in-range : (capacity : ℕ) → 1 ≤ capacity → capacity ≤ office .maxCapacity → inRange capacity ≡ true
+in-range capacity h g = rw (le-leb 1 capacity h, le-leb capacity (office .maxCapacity) g)
 
 pub too-low : (capacity : ℕ) → capacity < 1 → inRange capacity ≡ false
 too-low capacity h = rw (lt-leb 1 capacity h)
 
-pub too-high : (capacity : ℕ) → 2048 < capacity → inRange capacity ≡ false
+pub too-high : (capacity : ℕ) → office .maxCapacity < capacity → inRange capacity ≡ false
 too-high capacity h = high (leb 1 capacity)
   where
-    high : (t : Bool) → t && leb capacity 2048 ≡ false
-    high true = lt-leb capacity 2048 h
+    high : (t : Bool) → t && leb capacity (office .maxCapacity) ≡ false
+    high true = lt-leb capacity (office .maxCapacity) h
     high false = refl
 
 -- the needed length by the outcome
@@ -104,14 +103,14 @@ module _ (capacity : ℕ) (book area : List ℕ) where
 
   pub open-accepted : inRange capacity ≡ true → areaLength office capacity ≤ length area → refusalOf (parseBook office book) ≡ 0
       → callOpen office capacity book area
-      ≡ accept [] (over (concatMap (toBytes wordSize) (openedWords capacity (length (decodedBook (parseBook office book))) (bookRows (decodedBook (parseBook office book))))) area) []
+      ≡ accept [] (over (concatMap (toBytes wordSize) (openedWords office capacity (length (decodedBook (parseBook office book))) (bookRows (termWords * office .maxTerms) (decodedBook (parseBook office book))))) area) []
   unfolding openParsed areaBytes bookRows
   open-accepted h g z =
       let d = decoded book z in
       let b = decodedBook (parseBook office book) in
       open-parsed h g ∙ ap (openParsed office capacity area) (d .1)
       ∙ ap (λ words. accept [] (over (concatMap (toBytes wordSize) words) area) [])
-      (opened-words b capacity (parsed-formed office book b (d .0) (d .1) .1))
+      (opened-words office b capacity (parsed-formed office book b (d .0) (d .1) .1))
 
 -- COPYING.
 module _ (book out : List ℕ) where

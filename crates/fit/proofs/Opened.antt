@@ -1,18 +1,18 @@
 -- Laying the header and the term rows into an area and clearing the rest gives the bytes of a state just opened. Assumes
 -- nothing.
-use mathlib.Core.Path.{_≡_, refl, sym, ap, ap₂, _∙_}
+use mathlib.Core.Path.{_≡_, refl, sym, ap, _∙_}
 use mathlib.Core.List.{List, [], _∷_, _++_, map, append-assoc}
 use mathlib.Core.Option.{none}
 use Prim.Native.Nat.{ℕ, zero, suc, _+_, _*_, _-_, _≤_, zero-le}
 use native.Mathlib.Omega.{arith}
-use lib.ListN.{length, take, drop, replicate, length-append, length-drop, length-replicate, replicate-append-replicate}
+use lib.ListN.{length, drop, replicate, length-append, length-replicate, replicate-append-replicate}
 use lib.Seq.{take-at, drop-append-add, drop-drop}
 use native.Mathlib.Nat.{add-sub-of-le}
-use Rattle.model.specs.Limits.{office}
+use Rattle.model.specs.Limits.{Limits}
 use Rattle.model.specs.Lists.{concatMap, padded}
 use Rattle.model.specs.Term.{Node, Book}
 use Rattle.model.specs.Step.{opened}
-use Rattle.model.specs.Area.{wordSize, termWords, entryRowWords, toBytes, nodeWords, bindingWord, areaWords, areaBytes, areaLength}
+use Rattle.model.specs.Area.{wordSize, headerWords, termWords, entryRowWords, bindingsAt, toBytes, nodeWords, bindingWord, areaWords, areaLength}
 use Rattle.model.specs.Call.{over}
 use Rattle.theory.proofs.Lists.Laws.{concatMap-append}
 use Rattle.theory.proofs.Area.Words.{length-words}
@@ -40,27 +40,27 @@ no-bindings [] = refl
 no-bindings (n ∷ b) = ap (λ xs. 0 ∷ xs) (no-bindings b)
 
 -- the bindings, the lines and the entries of a state just opened
-opened-zeros : (b : Book) (c : ℕ) → length b ≤ office .maxTerms
-    → padded (office .maxTerms) (map bindingWord (map (λ (n : Node). none) b)) ++ (padded (office .maxLines) [] ++ padded (entryRowWords * c) [])
-    ≡ replicate (office .maxTerms + office .maxLines + entryRowWords * c) 0
-opened-zeros b c h =
-    let e : office .maxTerms + (office .maxLines + entryRowWords * c) ≡ office .maxTerms + office .maxLines + entryRowWords * c = omega arith in
+opened-zeros : (lim : Limits) (b : Book) (c : ℕ) → length b ≤ lim .maxTerms
+    → padded (lim .maxTerms) (map bindingWord (map (λ (n : Node). none) b)) ++ (padded (lim .maxLines) [] ++ padded (entryRowWords * c) [])
+    ≡ replicate (lim .maxTerms + lim .maxLines + entryRowWords * c) 0
+opened-zeros lim b c h =
+    let e : lim .maxTerms + (lim .maxLines + entryRowWords * c) ≡ lim .maxTerms + lim .maxLines + entryRowWords * c = omega arith in
     rw (
       no-bindings b,
-      padded-zeros (office .maxTerms) (length b) h,
-      padded-zeros (office .maxLines) 0 zero-le,
+      padded-zeros (lim .maxTerms) (length b) h,
+      padded-zeros (lim .maxLines) 0 zero-le,
       padded-zeros (entryRowWords * c) 0 zero-le,
-      replicate-append-replicate (office .maxLines),
-      replicate-append-replicate (office .maxTerms),
+      replicate-append-replicate (lim .maxLines),
+      replicate-append-replicate (lim .maxTerms),
     )
     (ap (λ m. replicate m 0) e)
 
 -- the words of a state just opened
-pub opened-words : (b : Book) (c : ℕ) → length b ≤ office .maxTerms
-    → areaWords office (opened b c) ≡ openedWords c (length b) (padded (termWords * office .maxTerms) (concatMap nodeWords b))
+pub opened-words : (lim : Limits) (b : Book) (c : ℕ) → length b ≤ lim .maxTerms
+    → areaWords lim (opened b c) ≡ openedWords lim c (length b) (padded (termWords * lim .maxTerms) (concatMap nodeWords b))
 unfolding areaWords opened openedWords concatMap
-opened-words b c h =
-    ap (λ xs. c ∷ length b ∷ 0 ∷ 0 ∷ (padded (termWords * office .maxTerms) (concatMap nodeWords b) ++ xs)) (opened-zeros b c h)
+opened-words lim b c h =
+    ap (λ xs. c ∷ length b ∷ 0 ∷ 0 ∷ (padded (termWords * lim .maxTerms) (concatMap nodeWords b) ++ xs)) (opened-zeros lim b c h)
 
 -- what a write behind a first part leaves
 drop-behind : (p rest : List ℕ) (n m k : ℕ) → length p ≡ n → k ≡ n + m → drop k (p ++ rest) ≡ drop m rest
@@ -77,7 +77,7 @@ unfolding cleared
 cleared-behind p rest a e h g =
     rw (take-at p rest a h, drop-behind p rest a (e - a) e h (omega arith), append-assoc)
 
-module _ (c terms : ℕ) (rows : List ℕ) where
+module _ (lim : Limits) (c terms : ℕ) (rows : List ℕ) where
   -- the header's bytes, with the rows' bytes behind them, and zeros behind these
   header : List ℕ
   header = c ∷ terms ∷ 0 ∷ 0 ∷ []
@@ -86,16 +86,16 @@ module _ (c terms : ℕ) (rows : List ℕ) where
   front = concatMap (toBytes wordSize) header ++ concatMap (toBytes wordSize) rows
 
   zeros : ℕ
-  zeros = wordSize * (office .maxTerms + office .maxLines + entryRowWords * c)
+  zeros = wordSize * (lim .maxTerms + lim .maxLines + entryRowWords * c)
 
-  opened-bytes : concatMap (toBytes wordSize) (openedWords c terms rows) ≡ front ++ replicate zeros 0
+  opened-bytes : concatMap (toBytes wordSize) (openedWords lim c terms rows) ≡ front ++ replicate zeros 0
   unfolding openedWords header front zeros
   opened-bytes =
-      let n = office .maxTerms + office .maxLines + entryRowWords * c in
+      let n = lim .maxTerms + lim .maxLines + entryRowWords * c in
       concatMap-append (toBytes wordSize) (c ∷ terms ∷ 0 ∷ 0 ∷ []) (rows ++ replicate n 0)
       ∙ rw (concatMap-append (toBytes wordSize) rows (replicate n 0), zero-bytes n, append-assoc)
 
-  length-front : length rows ≡ termWords * office .maxTerms → length front ≡ 40976
+  length-front : length rows ≡ termWords * lim .maxTerms → length front ≡ wordSize * bindingsAt lim
   unfolding header front
   length-front h =
       rw (
@@ -104,27 +104,28 @@ module _ (c terms : ℕ) (rows : List ℕ) where
         length-words wordSize rows,
         h,
       )
+      (omega arith)
 
   -- what lies behind the needed length
-  behind : (area : List ℕ) → length rows ≡ termWords * office .maxTerms
-      → drop zeros (drop (wordSize * length rows) (drop 16 area)) ≡ drop (length (front ++ replicate zeros 0)) area
+  behind : (area : List ℕ) → length rows ≡ termWords * lim .maxTerms
+      → drop zeros (drop (wordSize * length rows) (drop (wordSize * headerWords) area)) ≡ drop (length (front ++ replicate zeros 0)) area
   behind area h =
-      let e : 16 + (wordSize * length rows + zeros) ≡ length (front ++ replicate zeros 0) =
+      let e : wordSize * headerWords + (wordSize * length rows + zeros) ≡ length (front ++ replicate zeros 0) =
       omega (arith, length-append front (replicate zeros 0), length-front h, length-replicate {A = ℕ} zeros 0) in
-      rw (drop-drop zeros (wordSize * length rows), drop-drop (wordSize * length rows + zeros) 16) (ap (λ n. drop n area) e)
+      rw (drop-drop zeros (wordSize * length rows), drop-drop (wordSize * length rows + zeros) (wordSize * headerWords)) (ap (λ n. drop n area) e)
 
   -- Three writes one after the other: the header, the rows, and zeros up to the needed length.
-  pub laid-opened : (area : List ℕ) → length rows ≡ termWords * office .maxTerms
-      → cleared (laid (laid area 0 (c ∷ terms ∷ 0 ∷ 0 ∷ [])) 4 rows) 40976 (areaLength office c)
-      ≡ over (concatMap (toBytes wordSize) (openedWords c terms rows)) area
+  pub laid-opened : (area : List ℕ) → length rows ≡ termWords * lim .maxTerms
+      → cleared (laid (laid area 0 (c ∷ terms ∷ 0 ∷ 0 ∷ [])) headerWords rows) (wordSize * bindingsAt lim) (areaLength lim c)
+      ≡ over (concatMap (toBytes wordSize) (openedWords lim c terms rows)) area
   unfolding areaLength over header front zeros
   laid-opened area h =
-      let rest = drop (wordSize * length rows) (drop 16 area) in
-      let e : areaLength office c - 40976 ≡ zeros = omega arith in
+      let rest = drop (wordSize * length rows) (drop (wordSize * headerWords) area) in
+      let e : areaLength lim c - wordSize * bindingsAt lim ≡ zeros = omega arith in
       rw (
         laid-behind [] area 0 (c ∷ terms ∷ 0 ∷ 0 ∷ []) refl,
-        laid-behind (concatMap (toBytes wordSize) header) (drop 16 area) 4 rows (length-words wordSize header),
-        cleared-behind front rest 40976 (areaLength office c) (length-front h) (omega arith),
+        laid-behind (concatMap (toBytes wordSize) header) (drop (wordSize * headerWords) area) headerWords rows (length-words wordSize header),
+        cleared-behind front rest (wordSize * bindingsAt lim) (areaLength lim c) (length-front h) (omega arith),
         e,
         opened-bytes,
         behind area h,

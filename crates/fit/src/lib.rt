@@ -1,13 +1,15 @@
 // The calls that are offered to others. None has a `requires`: what is wrong is refused by its number (docs/C-API.md).
 
 ghost use mathlib.Core.Path.{_≡_};
-ghost use mathlib.Core.List.{List, [], _∷_, _++_};
-ghost use Prim.Native.Nat.{ℕ, _+_, _*_, _≤_};
-ghost use lib.ListN.{length, getD, replicate};
+ghost use mathlib.Core.List.{[], _∷_};
+ghost use Prim.Native.Nat.{_*_, _≤_};
+ghost use lib.ListN.{length};
 ghost use Rattle.model.specs.Limits.{office};
 ghost use Rattle.model.specs.Lists.{concatMap};
-ghost use Rattle.model.specs.Area.{wordSize, toBytes, areaLength};
+ghost use Rattle.model.specs.Area.{wordSize, termWords, toBytes, areaLength};
 ghost use Rattle.model.specs.Call.{over, callOpen, callCopy};
+ghost use Rattle.theory.specs.Modest.{Modest};
+ghost use Rattle.layout.specs.Limits.{limitsOf};
 ghost use Rattle.fit.specs.Opened.{openedWords};
 ghost use Rattle.fit.specs.Offered.{neededLength};
 
@@ -19,10 +21,10 @@ pub extern "C" fn fit_area_length(capacity: u32) -> usize
     if capacity < 1 {
         return 0;
     }
-    if 2048 < capacity {
+    if layout::OFFICE_CAPACITY < capacity as usize {
         return 0;
     }
-    area::needed_length(capacity as usize)
+    area::needed_length(layout::OFFICE, capacity as usize)
 }
 
 // Opens a book in an area: 4 for the capacity, 7 for an area that is too short, then the book's refusals. Where it is
@@ -39,21 +41,28 @@ pub extern "C" fn fit_open(capacity: u32, book: &[u8], area: &mut [u8]) -> u32
     if area.len() < needed {
         return 7;
     }
-    let mut rows = [0u32; 10240];
-    let decoded = book::decode(book, &mut rows);
+    let mut rows = [0u32; layout::TERM_WORDS * layout::OFFICE_TERMS];
+    let decoded = book::decode(book, layout::OFFICE, &mut rows);
     let refusal = decoded.refusal;
     if refusal != 0 {
         return refusal;
     }
     let terms = decoded.terms;
-    write_opened(area, capacity, terms, needed, &rows);
+    write_opened(area, layout::OFFICE, capacity, terms, needed, &rows);
     0
 }
 
 // Writes an area just opened: the header, the term rows, and zeros up to the needed length.
-fn write_opened(area: &mut [u8], capacity: u32, terms: u32, needed: usize, rows: &[u32; 10240])
-    requires { ⌜ (needed ≡ areaLength office capacity) × (needed ≤ length (now area)) × (length (now rows) ≡ 10240) ⌝ }
-    ensures { λ _. ⌜ now (area .exit) ≡ over (concatMap (toBytes wordSize) (openedWords capacity terms (now (rows .entry)))) (now (area .entry)) ⌝ }
+fn write_opened(
+    area: &mut [u8],
+    lim: layout::Limits,
+    capacity: u32,
+    terms: u32,
+    needed: usize,
+    rows: &[u32],
+)
+    requires { ⌜ Modest (limitsOf lim) × (needed ≡ areaLength (limitsOf lim) capacity) × (needed ≤ length (now area)) × (length (now rows) ≡ termWords * lim .terms) ⌝ }
+    ensures { λ _. ⌜ now (area .exit) ≡ over (concatMap (toBytes wordSize) (openedWords (limitsOf lim) capacity terms (now (rows .entry)))) (now (area .entry)) ⌝ }
 {
     let header = area::Header {
         capacity,
@@ -62,8 +71,8 @@ fn write_opened(area: &mut [u8], capacity: u32, terms: u32, needed: usize, rows:
         lines: 0,
     };
     area::store_header(area, header);
-    area::store_terms(area, rows);
-    words::clear(area, 40976, needed);
+    words::store(area, layout::HEADER_WORDS, rows);
+    words::clear(area, layout::WORD_BYTES * area::bindings_at(lim), needed);
 }
 
 // Reads a book and writes it back, with no area: the book's refusals, then 13 where `out` is too short. `written` is the
@@ -75,8 +84,8 @@ pub extern "C" fn fit_copy_book(book: &[u8], out: &mut [u8], written: &mut u32) 
     ensures output { λ r. ⌜ now (out .exit) ≡ callCopy office (now (book .entry)) (now (out .entry)) .output ⌝ }
 {
     *written = 0;
-    let mut rows = [0u32; 10240];
-    let decoded = book::decode(book, &mut rows);
+    let mut rows = [0u32; layout::TERM_WORDS * layout::OFFICE_TERMS];
+    let decoded = book::decode(book, layout::OFFICE, &mut rows);
     let refusal = decoded.refusal;
     if refusal != 0 {
         return refusal;

@@ -4,6 +4,15 @@
 
 use libc::STDOUT_FILENO;
 
+// The capacity of the area, and its needed length in bytes.
+const CAPACITY: usize = 4;
+
+const LENGTH: usize = layout::WORD_BYTES
+    * (layout::HEADER_WORDS
+        + (layout::TERM_WORDS + 1) * layout::OFFICE_TERMS
+        + layout::OFFICE_LINES
+        + layout::ENTRY_WORDS * CAPACITY);
+
 fn print(n: u64) {
     io::print_decimal(STDOUT_FILENO, n);
     io::write_all(STDOUT_FILENO, b" ");
@@ -14,17 +23,17 @@ fn wide(x: u8) -> u64 {
 }
 
 // The low bytes of the first 64 words.
-fn print_words(area: &[u8; 46320]) {
+fn print_words(area: &[u8; LENGTH]) {
     let mut i: usize = 0;
     while i < 64 {
-        print(wide(area[4 * i]));
+        print(wide(area[layout::WORD_BYTES * i]));
         i += 1;
     }
 }
 
-// The area has room for capacity 4 and holds other bytes before.
+// The area holds other bytes before.
 fn show(capacity: u32, book: &[u8]) {
-    let mut area = [255u8; 46320];
+    let mut area = [255u8; LENGTH];
     let refusal = fit::fit_open(capacity, book, &mut area);
     print(refusal as u64);
     let mut out = [0u8; 32];

@@ -4,13 +4,13 @@ ghost use mathlib.Core.Path.{_≡_};
 ghost use Prim.Native.Nat.{_+_, _*_, _≤_};
 ghost use lib.ListN.{length, take, drop};
 ghost use lib.Seq.{sets};
-ghost use Rattle.model.specs.Area.{fromBytes, toBytes, wordsAt};
+ghost use Rattle.model.specs.Area.{wordSize, fromBytes, toBytes, wordsAt};
 ghost use Rattle.words.specs.Words.{laid, cleared};
 
 // The word whose lowest byte stands at byte `at`.
 pub fn word_at(s: &[u8], at: usize) -> u32
-    requires { ⌜ at + 4 ≤ length (now s) ⌝ }
-    ensures { λ r. ⌜ r ≡ fromBytes (take 4 (drop at (now (s .entry)))) ⌝ }
+    requires { ⌜ at + wordSize ≤ length (now s) ⌝ }
+    ensures { λ r. ⌜ r ≡ fromBytes (take wordSize (drop at (now (s .entry)))) ⌝ }
 {
     let a = s[at] as u32;
     let b = s[at + 1] as u32;
@@ -21,8 +21,8 @@ pub fn word_at(s: &[u8], at: usize) -> u32
 
 // Puts the bytes of `w` at byte `at`, the lowest first.
 fn put_word(area: &mut [u8], at: usize, w: u32)
-    requires { ⌜ at + 4 ≤ length (now area) ⌝ }
-    ensures { λ _. ⌜ now (area .exit) ≡ sets (now (area .entry)) at (toBytes 4 w) ⌝ }
+    requires { ⌜ at + wordSize ≤ length (now area) ⌝ }
+    ensures { λ _. ⌜ now (area .exit) ≡ sets (now (area .entry)) at (toBytes wordSize w) ⌝ }
 {
     area[at] = (w % 256) as u8;
     area[at + 1] = (w / 256 % 256) as u8;
@@ -32,24 +32,24 @@ fn put_word(area: &mut [u8], at: usize, w: u32)
 
 // Loads the words from word `start` on, as many as `words` has places.
 pub fn load(area: &[u8], start: usize, words: &mut [u32])
-    requires { ⌜ 4 * (start + length (now words)) ≤ length (now area) ⌝ }
+    requires { ⌜ wordSize * (start + length (now words)) ≤ length (now area) ⌝ }
     ensures { λ _. ⌜ now (words .exit) ≡ wordsAt (now (area .entry)) start (length (now (words .entry))) ⌝ }
 {
     let mut i = 0;
     while i < words.len() {
-        words[i] = word_at(area, 4 * (start + i));
+        words[i] = word_at(area, layout::WORD_BYTES * (start + i));
         i += 1;
     }
 }
 
 // Stores the words from word `start` on.
 pub fn store(area: &mut [u8], start: usize, words: &[u32])
-    requires { ⌜ 4 * (start + length (now words)) ≤ length (now area) ⌝ }
+    requires { ⌜ wordSize * (start + length (now words)) ≤ length (now area) ⌝ }
     ensures { λ _. ⌜ now (area .exit) ≡ laid (now (area .entry)) start (now (words .entry)) ⌝ }
 {
     let mut i = 0;
     while i < words.len() {
-        put_word(area, 4 * (start + i), words[i]);
+        put_word(area, layout::WORD_BYTES * (start + i), words[i]);
         i += 1;
     }
 }

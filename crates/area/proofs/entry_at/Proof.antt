@@ -4,6 +4,7 @@ use native.Mathlib.Nat.{add-zero}
 use native.Mathlib.Omega.{arith}
 use denote.Ref.{now}
 use Rattle.model.specs.Lists.{from}
+use Rattle.model.specs.Area.{entryRowWords}
 use Rattle.area.specs.Row.{rowOf}
 use Rattle.words.proofs.Elements.{each}
 use borrow.Author.Needs.{needs}
@@ -14,8 +15,8 @@ returns : tie.Need-returns
 unfolding rowOf from
 returns c =
     let a = c .before .before .before .before .before .before .before .before .before .before .before .before .before .before .args in
-    let at = 14 * a .i in
-    rw (each (now (a .rows)) at 14 (omega arith), add-zero at)
+    let at = entryRowWords * a .i in
+    rw (each (now (a .rows)) at entryRowWords (omega arith), add-zero at)
 
 pub entry-at-spec : {M : Type 1} → statement M
 entry-at-spec =

@@ -10,8 +10,14 @@ word-at-requires c κs = search needs
 word-at-requires-2 : tie.Need-word-at-requires-2
 word-at-requires-2 c κs = search needs
 
+mul-word-at : tie.Need-mul-word-at
+mul-word-at c = search needs
+
 word-at-requires-3 : tie.Need-word-at-requires-3
 word-at-requires-3 c κs = search needs
+
+mul-word-at-2 : tie.Need-mul-word-at-2
+mul-word-at-2 c = search needs
 
 word-at-requires-4 : tie.Need-word-at-requires-4
 word-at-requires-4 c κs = search needs
@@ -23,4 +29,4 @@ returns c = (c .before .before .before .word-at .ensures, c .before .before .wor
 pub load-header-spec : {M : Type 1} → statement M
 load-header-spec =
     tie.close
-    (tie.spec word-at-requires word-at-requires-2 word-at-requires-3 word-at-requires-4 returns)
+    (tie.spec word-at-requires word-at-requires-2 mul-word-at word-at-requires-3 mul-word-at-2 word-at-requires-4 returns)

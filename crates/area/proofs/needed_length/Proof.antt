@@ -5,6 +5,9 @@ use borrow.Author.Needs.{needs}
 use Rattle.area.proofs.needed_length.Statement.{statement}
 use Rattle.area.proofs.needed_length.Tie as tie
 
+entries-at-requires : tie.Need-entries-at-requires
+entries-at-requires c κs = search needs
+
 mul-result : tie.Need-mul-result
 mul-result c = search needs
 
@@ -19,4 +22,5 @@ unfolding areaLength
 returns c = omega arith
 
 pub needed-length-spec : {M : Type 1} → statement M
-needed-length-spec = tie.close (tie.spec mul-result add-result mul-result-2 returns)
+needed-length-spec =
+    tie.close (tie.spec entries-at-requires mul-result add-result mul-result-2 returns)

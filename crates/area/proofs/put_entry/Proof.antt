@@ -1,6 +1,7 @@
 -- `area::put_entry` meets its contract: the words put are the entry's fields, and its eight arguments one by one. Assumes nothing.
 use mathlib.Core.Path.{_≡_}
 use lib.ListN.{length}
+use Rattle.model.specs.Limits.{maxArity}
 use Rattle.model.specs.Lists.{from}
 use Rattle.area.specs.Row.{rowOf}
 use Rattle.words.proofs.Elements.{every}
@@ -49,8 +50,8 @@ unfolding rowOf from
 returns c =
     let s = c .before .before .before .before .before .before .before in
     let arguments = s .args .e .arguments in
-    let long : length arguments ≡ 8 = search needs in
-    rw (← every arguments 8 long) (c .before .before .put-words .ensures)
+    let long : length arguments ≡ maxArity = search needs in
+    rw (← every arguments maxArity long) (c .before .before .put-words .ensures)
 
 pub put-entry-spec : {M : Type 1} → statement M
 put-entry-spec =

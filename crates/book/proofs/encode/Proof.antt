@@ -17,12 +17,12 @@ abbrev μ-loop : tie.MeasureT-loop
 
 cast-put-number : tie.Need-cast-put-number Inv-loop μ-loop
 cast-put-number c =
-    let start = c .before .before in
+    let start = c .before .before .before in
     omega (arith, encodable-terms _ _ (start .pre .0))
 
 put-number-requires : tie.Need-put-number-requires Inv-loop μ-loop
 put-number-requires c κs =
-    let start = c .before .before in (
+    let start = c .before .before .before in (
       omega (arith, encodable-terms _ _ (start .pre .0)),
       first-fits _ _ (start .args .out .now) (start .pre .1),
     )
@@ -30,14 +30,14 @@ put-number-requires c κs =
 loop-holds : tie.Need-loop-holds Inv-loop μ-loop
 loop-holds c =
     let put = c .before .before .put-number in
-    (omega arith, rw (terms-none (c .before .before .before .before .before .args .rows .now)) (laid-none (put .last .0) (put .result)))
+    (omega arith, rw (terms-none (c .before .before .before .before .before .before .args .rows .now)) (laid-none (put .last .0) (put .result)))
 
 put-term-requires : tie.Need-put-term-requires Inv-loop μ-loop
 put-term-requires c κs =
     let start = c .before .before .before .before .before .before .before .before .before in
-    let put = c .before .before .before .before .before .before .put-number in
-    let loop = c .before .before .before .loop in (
-      encodable-row _ _ (start .pre .0) (c .before .put-term-arg .given .0) (loop .t) (omega arith),
+    let put = c .before .before .before .before .before .put-number in
+    let loop = c .before .before .loop in (
+      encodable-row _ _ (start .pre .0) (loop .t) (omega arith),
       encodable-small _ _ (start .pre .0),
       term-fits _ _ _ (start .pre .1) _ _ (put .ensures) _ (loop .inv .0) _ _ (loop .inv .1) (omega arith),
     )
@@ -51,21 +51,21 @@ loop-less c = omega arith
 loop-again : tie.Need-loop-again Inv-loop μ-loop
 loop-again c =
     let start = c .before .before .before .before .before .before .before .before .before .before .before .before in
-    let put = c .before .before .before .before .before .before .before .before .before .put-number in
-    let loop = c .before .before .before .before .before .before .loop in
+    let put = c .before .before .before .before .before .before .before .before .put-number in
+    let loop = c .before .before .before .before .before .loop in
     let term = c .before .before .put-term in
     (omega arith, term-laid _ _ _ (start .pre .1) _ _ (put .ensures) _ (loop .inv .0) _ _ (loop .inv .1) _ _ (term .ensures))
 
 same-length : tie.Need-same-length Inv-loop μ-loop
 same-length c =
-    let start = c .before .before .before .before .before .before .before in
+    let start = c .before .before .before .before .before .before .before .before in
     let put = c .before .before .before .before .put-number in
     let loop = c .before .loop in
     terms-length _ _ _ (start .pre .1) _ _ (put .ensures) _ (loop .inv .0) _ _ (loop .inv .1)
 
 returns : tie.Need-returns Inv-loop μ-loop
 returns c =
-    let start = c .before .before .before .before .before .before .before in
+    let start = c .before .before .before .before .before .before .before .before in
     let put = c .before .before .before .before .put-number in
     let loop = c .before .loop in
     book-laid _ _ _ (start .pre .1) _ _ (put .ensures) _ (loop .inv .0) _ _ (loop .inv .1) (omega arith)

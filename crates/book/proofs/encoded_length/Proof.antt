@@ -22,20 +22,20 @@ abbrev μ-loop : tie.MeasureT-loop
 μ-loop rows terms t₀ sum₀ t sum = terms - t
 
 cast-length-of : tie.Need-cast-length-of Inv-loop μ-loop
-cast-length-of c = omega (arith, encodable-terms _ _ (c .pre))
+cast-length-of c = omega (arith, encodable-terms _ _ (c .before .pre))
 
 length-of-requires : tie.Need-length-of-requires Inv-loop μ-loop
 length-of-requires c κs = search needs
 
 loop-holds : tie.Need-loop-holds Inv-loop μ-loop
 loop-holds c =
-    let none = ap length (terms-none (c .before .args .rows .now)) in
+    let none = ap length (terms-none (c .before .before .args .rows .now)) in
     omega arith
 
 term-length-requires : tie.Need-term-length-requires Inv-loop μ-loop
 term-length-requires c κs =
     let start = c .before .before .before .before in
-    encodable-row _ _ (start .pre) (c .term-length-arg .given .0) (c .before .before .loop .t) (omega arith)
+    encodable-row _ _ (start .pre) (c .before .loop .t) (omega arith)
 
 add-sum : tie.Need-add-sum Inv-loop μ-loop
 add-sum c =
@@ -52,12 +52,12 @@ loop-less c = omega arith
 loop-again : tie.Need-loop-again Inv-loop μ-loop
 loop-again c =
     let start = c .before .before .before .before .before in
-    let more = length-terms-more (start .args .rows .now) (c .before .before .before .loop .t) in
+    let more = length-terms-more (start .args .rows .now) (c .before .before .loop .t) in
     omega arith
 
 returns : tie.Need-returns Inv-loop μ-loop
 returns c =
-    let start = c .before .before .before in
+    let start = c .before .before .before .before in
     let done : c .before .loop .t ≡ start .args .terms = omega arith in
     let all = ap (λ (t : ℕ). length (termsBytes (start .args .rows .now) t)) done in
     rw (length-book (start .args .rows .now) (start .args .terms)) (omega arith)

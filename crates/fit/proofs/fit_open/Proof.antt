@@ -1,20 +1,18 @@
 -- `fit::fit_open` meets its contract: each return is a case of opening (proofs/OpenCases.antt). Assumes nothing.
 use mathlib.Core.Path.{_≡_, sym, ap, ap₂, subst, _∙_}
 use mathlib.Core.Bool.{true}
-use Prim.Native.Nat.{_<_, _≤_}
+use Prim.Native.Nat.{_*_, _<_, _≤_}
 use borrow.Author.Needs.{needs}
 use denote.Ref.{now}
 use lib.ListN.{length}
 use Rattle.model.specs.Limits.{office}
 use Rattle.model.specs.Lists.{concatMap}
-use Rattle.model.specs.Area.{wordSize, toBytes, areaLength}
+use Rattle.model.specs.Area.{wordSize, termWords, toBytes, areaLength}
 use Rattle.model.specs.Call.{refuse, accept, over}
 use Rattle.model.specs.BookBytes.{parseBook}
 use Rattle.book.specs.Rows.{bookRows, decodedBook}
-use Rattle.theory.proofs.Book.Round.{parsed-formed}
-use Rattle.book.proofs.RowsBook.{rows-length}
 use Rattle.fit.specs.Opened.{openedWords}
-use Rattle.fit.proofs.OpenCases.{inRange, decoded, length-of, none-out-of-range, some-in-range, open-four, open-seven, open-refused, open-accepted}
+use Rattle.fit.proofs.OpenCases.{inRange, length-of, none-out-of-range, some-in-range, open-four, open-seven, open-refused, open-accepted}
 use Rattle.fit.proofs.fit_open.Statement.{statement}
 use Rattle.fit.proofs.fit_open.Tie as tie
 
@@ -50,29 +48,29 @@ returns-2 c =
     (subst (λ n. length (now (s .args .area)) < n) (needed (c .before)) (c .if2 .taken)) in
     (sym (ap (λ o. o .refusal) e), sym (ap (λ o. o .area) e))
 
+slice-aggregate-decode : tie.Need-slice-aggregate-decode
+slice-aggregate-decode c = search needs
+
 decode-requires : tie.Need-decode-requires
 decode-requires c κs = search needs
 
 returns-3 : tie.Need-returns-3
 unfolding refuse
 returns-3 c =
-    let long = c .before .before .before in
+    let long = c .before .before .before .before in
     let s = long .before .before .before .before .before in
-    let refusal = c .before .decode .ensures .0 in
+    let refusal = c .before .before .decode .ensures .0 in
     let e = open-refused (s .args .capacity) (now (s .args .book)) (now (s .args .area)) (ranged (long .before)) (roomy long)
     (λ z. c .if3 .taken (refusal ∙ z)) in
     (refusal ∙ sym (ap (λ o. o .refusal) e), sym (ap (λ o. o .area) e))
 
+slice-aggregate-write-opened : tie.Need-slice-aggregate-write-opened
+slice-aggregate-write-opened c = search needs
+
 write-opened-requires : tie.Need-write-opened-requires
 write-opened-requires c κs =
-    let accepted = c .before .before in
-    let long = accepted .before .before .before in
-    let ensures = accepted .before .decode .ensures in
-    let bytes = now (long .before .before .before .before .before .args .book) in
-    let parses = decoded bytes (sym (ensures .0) ∙ accepted .if3 .left) in
-    let formed = parsed-formed office bytes (decodedBook (parseBook office bytes)) (parses .0) (parses .1) in
-    let rowed : accepted .before .decode .last .1 .0 ≡ bookRows (decodedBook (parseBook office bytes)) = ensures .1 .1 (accepted .if3 .left) in
-    (needed (long .before), long .if2 .left, ap length rowed ∙ rows-length (decodedBook (parseBook office bytes)) (formed .0) (formed .1))
+    let long = c .before .before .before .before .before .before in
+    (search needs, needed (long .before), long .if2 .left, search needs)
 
 same-length : tie.Need-same-length
 same-length c = search needs
@@ -82,15 +80,15 @@ unfolding accept
 returns-4 c =
     let opened = c .before .before in
     let accepted = opened .before .before .before in
-    let long = accepted .before .before .before in
+    let read = accepted .before .before .decode in
+    let long = accepted .before .before .before .before in
     let s = long .before .before .before .before .before in
-    let ensures = accepted .before .decode .ensures in
     let e = open-accepted (s .args .capacity) (now (s .args .book)) (now (s .args .area)) (ranged (long .before)) (roomy long)
-    (sym (ensures .0) ∙ accepted .if3 .left) in
+    (sym (read .ensures .0) ∙ accepted .if3 .left) in
     let book = decodedBook (parseBook office (now (s .args .book))) in
-    let counted : accepted .before .decode .result .terms ≡ length book = ensures .1 .0 in
-    let rowed : accepted .before .decode .last .1 .0 ≡ bookRows book = ensures .1 .1 (accepted .if3 .left) in
-    let words = ap₂ (λ terms rows. over (concatMap (toBytes wordSize) (openedWords (s .args .capacity) terms rows)) (now (s .args .area)))
+    let counted : read .result .terms ≡ length book = read .ensures .1 .0 in
+    let rowed : read .last .1 .1 .0 ≡ bookRows (termWords * office .maxTerms) book = read .ensures .1 .1 (accepted .if3 .left) in
+    let words = ap₂ (λ terms rows. over (concatMap (toBytes wordSize) (openedWords office (s .args .capacity) terms rows)) (now (s .args .area)))
     counted rowed in
     (sym (ap (λ o. o .refusal) e), opened .write-opened .ensures ∙ words ∙ sym (ap (λ o. o .area) e))
 
@@ -101,8 +99,8 @@ fit-open-spec =
     fit-area-length-requires
     returns
     returns-2
-    decode-requires
+    slice-aggregate-decode decode-requires
     returns-3
-    write-opened-requires
+    slice-aggregate-write-opened write-opened-requires
     same-length
     returns-4)

@@ -1,12 +1,13 @@
 -- `fit::write_opened` meets its contract: three writes, of the header, of the rows and of zeros. Assumes nothing.
-use mathlib.Core.Path.{_≡_, ap, ap₂, _∙_}
+use mathlib.Core.Path.{ap, _∙_}
+use Prim.Native.Nat.{_*_}
 use borrow.Author.Needs.{needs}
 use native.Mathlib.Omega.{arith}
 use denote.Ref.{now}
-use lib.ListN.{length}
-use Rattle.model.specs.Area.{areaLength}
+use Rattle.model.specs.Area.{wordSize, headerWords, areaLength}
+use Rattle.layout.specs.Limits.{limitsOf}
 use Rattle.area.specs.Row.{wordsOf}
-use Rattle.words.specs.Words.{laid, cleared}
+use Rattle.words.specs.Words.{laid}
 use Rattle.fit.proofs.Opened.{laid-opened}
 use Rattle.fit.proofs.write_opened.Statement.{statement}
 use Rattle.fit.proofs.write_opened.Tie as tie
@@ -15,9 +16,16 @@ store-header-requires : tie.Need-store-header-requires
 unfolding areaLength
 store-header-requires c κs = omega arith
 
-store-terms-requires : tie.Need-store-terms-requires
+store-requires : tie.Need-store-requires
 unfolding areaLength
-store-terms-requires c κs = omega arith
+store-requires c κs = omega arith
+
+bindings-at-requires : tie.Need-bindings-at-requires
+bindings-at-requires c κs = search needs
+
+mul-clear : tie.Need-mul-clear
+unfolding areaLength
+mul-clear c = omega arith
 
 clear-requires : tie.Need-clear-requires
 unfolding areaLength
@@ -29,14 +37,16 @@ same-length c = search needs
 returns : tie.Need-returns
 unfolding wordsOf
 returns c =
-    let stored = c .before .before .before .before .before .before in
+    let bound = c .before .before .before in
+    let stored = bound .before .before .before .before in
     let headed = stored .before .before .before .before in
-    let s = headed .before .before .before in
+    let s = headed .before .before .before .before in
     let rows = now (s .args .rows) in
-    c .before .before .clear .ensures
-    ∙ ap₂ (λ area end. cleared area 40976 end) (stored .store-terms .ensures ∙ ap (λ area. laid area 4 rows) (headed .store-header .ensures)) (s .pre .0)
-    ∙ laid-opened (s .args .capacity) (s .args .terms) rows (now (s .args .area)) (s .pre .2)
+    let parts = stored .store .ensures ∙ ap (λ area. laid area headerWords rows) (headed .store-header .ensures) in
+    let start = ap (λ n. wordSize * n) (bound .bindings-at .ensures) in
+    c .before .before .clear .ensures ∙ rw (parts, start, s .pre .1)
+    (laid-opened (limitsOf (s .args .lim)) (s .args .capacity) (s .args .terms) rows (now (s .args .area)) (s .pre .3))
 
 pub write-opened-spec : {M : Type 1} → statement M
 write-opened-spec =
-    tie.close (tie.spec store-header-requires store-terms-requires clear-requires same-length returns)
+    tie.close (tie.spec store-header-requires store-requires bindings-at-requires mul-clear clear-requires same-length returns)

@@ -1,6 +1,5 @@
 -- `opening::print_words` is safe and ends. Assumes nothing.
 use Prim.Native.Nat.{_≤_, _-_}
-use native.Mathlib.Omega.{arith}
 use borrow.Author.Needs.{needs}
 use Rattle.opening.proofs.print_words.Statement.{statement}
 use Rattle.opening.proofs.print_words.Tie as tie

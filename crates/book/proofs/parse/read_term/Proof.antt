@@ -1,11 +1,12 @@
--- `book::parse::read_term` meets its contract: the first number is below 4,097, a variable ends there, and any other term
+-- `book::parse::read_term` meets its contract: the first number is within its limit, a variable ends there, and any other term
 -- goes on with its count. Assumes nothing.
 use mathlib.Core.Path.{_≡_, ap, _∙_}
-use Prim.Native.Nat.{_<_}
+use Prim.Native.Nat.{suc, _≤_}
 use native.Mathlib.Omega.{arith}
 use borrow.Author.Needs.{needs}
 use denote.Ref.{now}
 use lib.ListN.{drop}
+use Rattle.model.specs.Limits.{maxSymbol}
 use Rattle.model.specs.Term.{var}
 use Rattle.model.specs.BookBytes.{parsed}
 use Rattle.book.specs.Parts.{partOf, parseBelow}
@@ -16,12 +17,12 @@ use Rattle.book.proofs.parse.read_term.Tie as tie
 
 -- the number that was read, and its limit
 tag-read : (c : tie.After-value) →
-    let a = c .before .before .before .before .args in
-    parseBelow 4097 4 (drop (a .at) (now (a .bytes))) ≡ parsed (c .value .given .0 .0) (drop (c .value .given .0 .1 .0) (now (a .bytes)))
-tag-read c = c .before .before .read-below .ensures ∙ ap (partOf (now (c .before .before .before .before .args .bytes))) (c .value .given .1)
+    let a = c .before .before .before .before .before .args in
+    parseBelow (suc (suc maxSymbol)) 4 (drop (a .at) (now (a .bytes))) ≡ parsed (c .value .given .0 .0) (drop (c .value .given .0 .1 .0) (now (a .bytes)))
+tag-read c = c .before .before .read-below .ensures ∙ ap (partOf (now (c .before .before .before .before .before .args .bytes))) (c .value .given .1)
 
-tag-small : (c : tie.After-value) → c .value .given .0 .0 < 4097
-tag-small c = below-small 4097 4 _ _ _ (tag-read c)
+tag-small : (c : tie.After-value) → c .value .given .0 .0 ≤ suc maxSymbol
+tag-small c = omega (arith, below-small (suc (suc maxSymbol)) 4 _ _ _ (tag-read c))
 
 read-below-requires : tie.Need-read-below-requires
 read-below-requires c κs = search needs
@@ -43,14 +44,18 @@ read-app-requires c κs = omega (arith, tag-small (c .before .before .before .be
 enum-known-n : tie.Need-enum-known-n
 enum-known-n c = search needs
 
+same-length : tie.Need-same-length
+same-length c = search needs
+
 returns-2 : tie.Need-returns-2
 returns-2 c =
-    let test = c .before .before .before in
-    rw (term-app _ _ _ _ _ (tag-read (test .before .before)) (test .if1 .left)) (c .read-app .ensures)
+    let read = c .before .before in
+    let test = read .before .before .before in
+    rw (term-app _ _ _ _ _ (tag-read (test .before .before)) (test .if1 .left)) (read .read-app .ensures)
 
 returns-3 : tie.Need-returns-3
 returns-3 c =
-    let bytes = now (c .before .before .before .before .before .args .bytes) in
+    let bytes = now (c .before .before .before .before .before .before .args .bytes) in
     term-refused _ _ _ _ (c .before .before .before .read-below .ensures ∙ ap (partOf bytes) (c .before .n .given .1))
 
 pub read-term-spec : {M : Type 1} → statement M
@@ -63,5 +68,5 @@ read-term-spec =
     sub-read-app
     read-app-requires
     enum-known-n
-    returns-2
+    same-length returns-2
     returns-3)

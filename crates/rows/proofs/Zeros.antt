@@ -1,0 +1,43 @@
+-- Words that are 0: as a limit, and as the places behind numbers that are padded with zeros. Assumes nothing.
+use mathlib.Core.Path.{_≡_, refl, ap, ap₂, sym, _∙_}
+use mathlib.Core.List.{List, [], _∷_}
+use mathlib.Core.Bool.{Bool, true, false, _&&_}
+use Prim.Native.Nat.{ℕ, zero, suc, _-_}
+use native.Mathlib.Nat.{suc-sub-suc, sub-zero}
+use native.Mathlib.Omega.{arith}
+use borrow.Author.Tests.{le-ltb, eq-eqb}
+use lib.ListN.{length, take, drop, replicate}
+use lib.Dec.{eqb, ltb, eqb·zero-suc, eqb·suc-zero}
+use Rattle.model.specs.Lists.{all, isEmpty, eqNumbers, padded}
+
+-- tests that answer alike
+pub all-alike : {A : Type 0} (p q : A → Bool) → ((x : A) → p x ≡ q x) → (xs : List A) → all p xs ≡ all q xs
+unfolding all
+all-alike p q h [] = refl
+all-alike p q h (x ∷ xs) = ap₂ _&&_ (h x) (all-alike p q h xs)
+
+-- a number below 1 is 0
+below-one : (w : ℕ) → ltb w 1 ≡ eqb 0 w
+below-one zero = refl
+below-one (suc w) = rw (le-ltb (suc w) 1 (omega arith), eqb·zero-suc)
+
+pub zeros-below-one : (words : List ℕ) → all (λ w. ltb w 1) words ≡ all (eqb 0) words
+zeros-below-one words = all-alike _ _ below-one words
+
+-- equality with 0, either way round
+zero-first : (w : ℕ) → eqb w 0 ≡ eqb 0 w
+zero-first zero = refl
+zero-first (suc w) = rw (eqb·suc-zero, eqb·zero-suc)
+
+-- numbers that are zeros
+zeros : (xs : List ℕ) → eqNumbers xs (replicate (length xs) 0) ≡ all (eqb 0) xs
+unfolding eqNumbers isEmpty all
+zeros [] = refl
+zeros (x ∷ xs) = ap₂ _&&_ (zero-first x) (zeros xs)
+
+-- numbers are their first c, padded with zeros, exactly when those behind are 0
+pub padded-first : (c : ℕ) (xs : List ℕ) → eqNumbers xs (padded (length xs) (take c xs)) ≡ all (eqb 0) (drop c xs)
+unfolding eqNumbers isEmpty padded all
+padded-first zero xs = rw sub-zero (zeros xs)
+padded-first (suc c) [] = refl
+padded-first (suc c) (x ∷ xs) = rw (suc-sub-suc, eq-eqb x x refl) (padded-first c xs)

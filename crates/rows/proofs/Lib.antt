@@ -1,3 +1,4 @@
 pub mod Loops
 pub mod Parts
 pub mod Zeros
+pub mod TermRow

@@ -1,14 +1,16 @@
 -- Words that are 0: as a limit, and as the places behind numbers that are padded with zeros. Assumes nothing.
 use mathlib.Core.Path.{_≡_, refl, ap, ap₂, sym, _∙_}
 use mathlib.Core.List.{List, [], _∷_}
-use mathlib.Core.Bool.{Bool, true, false, _&&_}
-use Prim.Native.Nat.{ℕ, zero, suc, _-_}
+use mathlib.Core.Bool.{Bool, _&&_, and-false}
+use Prim.Native.Nat.{ℕ, zero, suc, _+_, _≤_}
 use native.Mathlib.Nat.{suc-sub-suc, sub-zero}
 use native.Mathlib.Omega.{arith}
 use borrow.Author.Tests.{le-ltb, eq-eqb}
 use lib.ListN.{length, take, drop, replicate}
-use lib.Dec.{eqb, ltb, eqb·zero-suc, eqb·suc-zero}
+use lib.Dec.{eqb, ltb, leb, leb·zero, eqb·zero-suc, eqb·suc-zero}
+use lib.Seq.{take-take}
 use Rattle.model.specs.Lists.{all, isEmpty, eqNumbers, padded}
+use Rattle.rows.proofs.Parts.{part, run, length-run, run-behind}
 
 -- tests that answer alike
 pub all-alike : {A : Type 0} (p q : A → Bool) → ((x : A) → p x ≡ q x) → (xs : List A) → all p xs ≡ all q xs
@@ -41,3 +43,24 @@ unfolding eqNumbers isEmpty padded all
 padded-first zero xs = rw sub-zero (zeros xs)
 padded-first (suc c) [] = refl
 padded-first (suc c) (x ∷ xs) = rw (suc-sub-suc, eq-eqb x x refl) (padded-first c xs)
+
+-- a count within its limit of n, as a row has it, and the first c of n places padded with zeros: the places behind are 0
+pub places-behind : (words : List ℕ) (a n c : ℕ) → a + n ≤ length words → c ≤ n →
+    let xs = take c (drop a words) in
+    eqb c (length xs) && eqNumbers (take n (drop a words)) (padded n xs) ≡ all (eqb 0) (part words (a + c) (a + n))
+places-behind words a n c h l =
+    let ys = take n (drop a words) in
+    let whole : length ys ≡ n = length-run words a n h in
+    let first : take c ys ≡ take c (drop a words) = take-take c n (drop a words) l in
+    let zeros-behind : eqNumbers ys (padded n (take c ys)) ≡ all (eqb 0) (drop c ys) = rw whole at (padded-first c ys) in
+    rw (length-run words a c (omega arith), eq-eqb c c refl) (rw (first, run-behind) at zeros-behind)
+
+-- a run of zeros
+pub run-zeros : (words : List ℕ) (a n : ℕ) → a + n ≤ length words
+    → eqNumbers (take n (drop a words)) (padded n []) ≡ all (eqb 0) (part words a (a + n))
+run-zeros words a n h = rw run (rw (length-run words a n h) at (padded-first 0 (take n (drop a words))))
+
+-- a count of 0 is within every limit
+pub no-count : (c n : ℕ) (b : Bool) → leb c n && (eqb 0 c && b) ≡ eqb 0 c && b
+no-count zero n b = rw (leb·zero n)
+no-count (suc c) n b = rw (eqb·zero-suc, and-false)

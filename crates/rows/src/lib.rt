@@ -6,6 +6,10 @@ ghost use lib.ListN.{length};
 ghost use lib.Dec.{eqb, ltb};
 ghost use Rattle.model.specs.Lists.{all};
 ghost use Rattle.model.specs.Area.{termWords, entryRowWords};
+use layout::ENTRY_WORDS;
+use layout::MAX_ARITY;
+use layout::MAX_SYMBOL;
+use layout::TERM_WORDS;
 ghost use Rattle.rows.specs.RowTests.{zeroFrom, termRowOk, linesOk, entryRowOk, entryRowsOk};
 
 // Whether every word is below the limit.
@@ -46,4 +50,55 @@ pub fn lines_ok(lines: &[u32], k: usize, m: usize) -> bool
         return false;
     }
     zero_from(lines, k)
+}
+
+// Whether row `t` is a term's row, with its numbers in their ranges.
+fn term_row_ok(rows: &[u32], t: usize) -> bool
+    requires { ⌜ termWords * t + termWords ≤ length (now rows) ⌝ }
+    ensures { λ r. ⌜ r ≡ termRowOk (now (rows .entry)) t ⌝ }
+{
+    let start = TERM_WORDS * t;
+    let end = start + TERM_WORDS;
+    let tag = rows[start] as usize;
+    if tag == 0 {
+        return all_zero(&rows[start..end]);
+    }
+    if MAX_SYMBOL + 1 < tag {
+        return false;
+    }
+    let count = rows[start + 1] as usize;
+    if MAX_ARITY < count {
+        return false;
+    }
+    let first = start + 2;
+    let behind = first + count;
+    if !all_below(&rows[first..behind], t) {
+        return false;
+    }
+    all_zero(&rows[behind..end])
+}
+
+// Whether row `i` is an entry's row, its kind 0 or 1 and its sides below `n`.
+fn entry_row_ok(rows: &[u32], n: usize, i: usize) -> bool
+    requires { ⌜ entryRowWords * i + entryRowWords ≤ length (now rows) ⌝ }
+    ensures { λ r. ⌜ r ≡ entryRowOk (now (rows .entry)) n i ⌝ }
+{
+    let start = ENTRY_WORDS * i;
+    let kind = start + 2;
+    if !all_below(&rows[start..kind], n) {
+        return false;
+    }
+    let last = start + (ENTRY_WORDS - 1);
+    if rows[kind] == 0 {
+        return all_zero(&rows[kind..last]);
+    }
+    if rows[kind] != 1 {
+        return false;
+    }
+    let count = rows[kind + 2] as usize;
+    if MAX_ARITY < count {
+        return false;
+    }
+    let behind = kind + 3 + count;
+    all_zero(&rows[behind..last])
 }

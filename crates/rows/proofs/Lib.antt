@@ -2,3 +2,4 @@ pub mod Loops
 pub mod Parts
 pub mod Zeros
 pub mod TermRow
+pub mod EntryRow

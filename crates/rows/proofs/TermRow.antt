@@ -29,7 +29,7 @@ module _ (rows : List ℕ) (t : ℕ) (h : termWords * t + termWords ≤ length r
   unfolding termRowOk nodeOf nodeWords nodeInRange all
   variable-row e =
       rw (e, and-true, run-zeros rows (termWords * t) termWords h, run, row-words, e)
-      (no-count (at rows (termWords * t + 1)) maxArity _)
+      (no-count true (at rows (termWords * t + 1)) maxArity _)
 
   -- a count above the limit
   pub high-count : maxArity < at rows (termWords * t + 1) → termRowOk rows t ≡ false

@@ -1,7 +1,7 @@
 -- Words that are 0: as a limit, and as the places behind numbers that are padded with zeros. Assumes nothing.
 use mathlib.Core.Path.{_≡_, refl, ap, ap₂, sym, _∙_}
 use mathlib.Core.List.{List, [], _∷_}
-use mathlib.Core.Bool.{Bool, _&&_, and-false}
+use mathlib.Core.Bool.{Bool, true, false, _&&_, and-false}
 use Prim.Native.Nat.{ℕ, zero, suc, _+_, _≤_}
 use native.Mathlib.Nat.{suc-sub-suc, sub-zero}
 use native.Mathlib.Omega.{arith}
@@ -60,7 +60,8 @@ pub run-zeros : (words : List ℕ) (a n : ℕ) → a + n ≤ length words
     → eqNumbers (take n (drop a words)) (padded n []) ≡ all (eqb 0) (part words a (a + n))
 run-zeros words a n h = rw run (rw (length-run words a n h) at (padded-first 0 (take n (drop a words))))
 
--- a count of 0 is within every limit
-pub no-count : (c n : ℕ) (b : Bool) → leb c n && (eqb 0 c && b) ≡ eqb 0 c && b
-no-count zero n b = rw (leb·zero n)
-no-count (suc c) n b = rw (eqb·zero-suc, and-false)
+-- a count that is tested to be 0, among other tests, is within every limit
+pub no-count : (a : Bool) (c n : ℕ) (b : Bool) → leb c n && (a && (eqb 0 c && b)) ≡ a && (eqb 0 c && b)
+no-count false c n b = and-false (leb c n)
+no-count true zero n b = rw (leb·zero n)
+no-count true (suc c) n b = rw (eqb·zero-suc, and-false)

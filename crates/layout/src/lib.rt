@@ -1,6 +1,12 @@
 // The numbers of an area's layout and the limits, each once (docs/LAYOUT.md).
 // Functions below `fit` take the limits as parameters; only `fit` names the office's.
 
+ghost use mathlib.Core.Path.{_≡_};
+ghost use Prim.Native.Nat.{suc, _≤_};
+ghost use lib.ListN.{getD, set};
+ghost use Rattle.model.specs.Limits.{maxArity, maxSymbol};
+ghost use Rattle.layout.specs.Counts.{fitsEntry};
+
 // Bytes in a word.
 pub const WORD_BYTES: usize = 4;
 
@@ -22,3 +28,19 @@ pub const OFFICE_TERMS: usize = 1024;
 pub const OFFICE_CAPACITY: usize = 2048;
 
 pub const OFFICE_LINES: usize = 256;
+
+// Notes that symbol `s` has `count` arguments, and says whether no other count was noted before. (Where one was, what was
+// noted last stands, and the table is of no use any more.)
+pub fn note_count(counts: &mut [u8; MAX_SYMBOL + 1], s: usize, count: u8) -> bool
+    requires { ⌜ (s ≤ maxSymbol) × (count ≤ maxArity) ⌝ }
+    ensures fits { λ r. ⌜ r ≡ fitsEntry (getD (now (counts .entry)) s 0) count ⌝ }
+    ensures noted { λ r. ⌜ now (counts .exit) ≡ set (now (counts .entry)) s (suc count) ⌝ }
+{
+    let seen = counts[s];
+    let note = count + 1;
+    counts[s] = note;
+    if seen == 0 {
+        return true;
+    }
+    seen == note
+}

@@ -1,9 +1,9 @@
 -- Laws of the list functions of `model`: all, first, from, concatMap, pairwise, eqNumbers; and of tests. Assumes nothing.
 use mathlib.Core.Path.{_≡_, refl, ap, ap₂, sym, _∙_, subst}
 use mathlib.Core.List.{List, [], _∷_, _++_, append-assoc}
-use mathlib.Core.Bool.{Bool, true, false, cond, _&&_}
+use mathlib.Core.Bool.{Bool, true, false, cond, _&&_, and-assoc}
 use Prim.Native.Nat.{ℕ, zero, suc, _+_, _≤_, _<_, zero-le, suc-le-suc}
-use native.Mathlib.Nat.{le-of-suc-le-suc, not-suc-le-zero}
+use native.Mathlib.Nat.{le-of-suc-le-suc, not-suc-le-zero, zero-add, add-zero, add-suc, suc-add}
 use native.Mathlib.Omega.{arith}
 use lib.ListN.{length, getD}
 use lib.Dec.{T, eqb, eqb→eq, eqb-refl}
@@ -61,6 +61,12 @@ module _ {A : Type 0} where
   all-intro p [] d h = tt
   all-intro p (x ∷ xs) d h =
       and-both (p x) (all p xs) (h 0 (suc-le-suc zero-le)) (all-intro p xs d (λ i l. h (suc i) (suc-le-suc l)))
+
+  -- every element of xs ++ ys passes exactly when those of both do
+  pub all-append : (p : A → Bool) (xs ys : List A) → all p (xs ++ ys) ≡ all p xs && all p ys
+  unfolding all
+  all-append p [] ys = refl
+  all-append p (x ∷ xs) ys = rw (all-append p xs ys, ← and-assoc (p x))
 
   -- the element at the index that `first` gives at the test b of x passes, where the one at n behind does
   cond-holds : (p : A → Bool) (x : A) (xs : List A) (d : A) (n : ℕ) (b : Bool) → p x ≡ b → (n < length xs → T (p (getD xs n d)))
@@ -126,6 +132,12 @@ unfolding from
 getD-from i zero j d h = absurd (not-suc-le-zero h)
 getD-from i (suc n) zero d h = omega arith
 getD-from i (suc n) (suc j) d h = getD-from (suc i) n j d (le-of-suc-le-suc h) ∙ omega arith
+
+-- m + k numbers are m numbers and then k
+pub from-append : (i m k : ℕ) → from i (m + k) ≡ from i m ++ from (i + m) k
+unfolding from
+from-append i zero k = rw (zero-add, add-zero)
+from-append i (suc m) k = rw (suc-add, from-append (suc i) m k, suc-add, add-suc)
 
 -- f of the elements at each index, for lists of one length
 pub length-pairwise : (f : ℕ → ℕ → ℕ) (xs ys : List ℕ) → length xs ≡ length ys → length (pairwise f xs ys) ≡ length xs

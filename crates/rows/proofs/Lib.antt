@@ -3,3 +3,4 @@ pub mod Parts
 pub mod Zeros
 pub mod TermRow
 pub mod EntryRow
+pub mod Bindings

@@ -2,7 +2,7 @@
 use mathlib.Core.Path.{_≡_, refl}
 use mathlib.Core.List.{List}
 use mathlib.Core.Bool.{Bool, true, false}
-use Prim.Native.Nat.{ℕ, _<_}
+use Prim.Native.Nat.{ℕ, _<_, _≤_}
 use native.Mathlib.Omega.{arith}
 use lib.ListN.{length, getD}
 use lib.Dec.{T}
@@ -20,16 +20,16 @@ Passed p i = (j : ℕ) → j < i → p j ≡ true
 
 -- the elements of a list: all passed, or the one at i did not
 module _ {A : Type 0} (p : A → Bool) (xs : List A) (d : A) where
-  pub each-passed : Passed (λ j. p (getD xs j d)) (length xs) → all p xs ≡ true
-  each-passed h = T-true (all p xs) (all-intro p xs d (λ j l. true-T _ (h j l)))
+  pub each-passed : (i : ℕ) → length xs ≤ i → Passed (λ j. p (getD xs j d)) i → all p xs ≡ true
+  each-passed i l h = T-true (all p xs) (all-intro p xs d (λ j k. true-T _ (h j (omega arith))))
 
   pub one-failed : (i : ℕ) → i < length xs → p (getD xs i d) ≡ false → all p xs ≡ false
   one-failed i l e = not-T-false (all p xs) (λ h. not-both _ e (all-at p xs d h i l))
 
 -- the numbers below n: all passed, or i did not
 module _ (p : ℕ → Bool) (n : ℕ) where
-  pub all-passed : Passed p n → all p (from 0 n) ≡ true
-  all-passed h = T-true (all p (from 0 n)) (below-all p n (λ j l. true-T _ (h j l)))
+  pub all-passed : (i : ℕ) → n ≤ i → Passed p i → all p (from 0 n) ≡ true
+  all-passed i l h = T-true (all p (from 0 n)) (below-all p n (λ j k. true-T _ (h j (omega arith))))
 
   pub all-broken : (i : ℕ) → i < n → p i ≡ false → all p (from 0 n) ≡ false
   all-broken i l e = not-T-false (all p (from 0 n)) (λ h. not-both _ e (all-below p n h i l))

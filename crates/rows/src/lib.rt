@@ -1,16 +1,17 @@
 // The tests of loaded rows that look at words alone (specs/RowTests.antt). Each only reads.
 
 ghost use mathlib.Core.Path.{_≡_};
-ghost use Prim.Native.Nat.{_+_, _*_, _≤_};
+ghost use Prim.Native.Nat.{_+_, _*_, _<_, _≤_};
 ghost use lib.ListN.{length};
 ghost use lib.Dec.{eqb, ltb};
 ghost use Rattle.model.specs.Lists.{all};
-ghost use Rattle.model.specs.Area.{termWords, entryRowWords};
+ghost use Rattle.model.specs.Area.{termWords, entryRowWords, bindingOk};
+ghost use Rattle.layout.specs.Rows.{nodeOf, bookOf, bindingOf};
 use layout::ENTRY_WORDS;
 use layout::MAX_ARITY;
 use layout::MAX_SYMBOL;
 use layout::TERM_WORDS;
-ghost use Rattle.rows.specs.RowTests.{zeroFrom, termRowOk, linesOk, entryRowOk, entryRowsOk};
+ghost use Rattle.rows.specs.RowTests.{zeroFrom, termRowOk, bindingsOk, linesOk, entryRowOk, entryRowsOk};
 
 // Whether every word is below the limit.
 fn all_below(words: &[u32], limit: usize) -> bool
@@ -101,4 +102,49 @@ fn entry_row_ok(rows: &[u32], n: usize, i: usize) -> bool
     }
     let behind = kind + 3 + count;
     all_zero(&rows[behind..last])
+}
+
+// Whether the rows are those of `m` entries over `n` terms, and the words behind them 0.
+pub fn entry_rows_ok(rows: &[u32], m: usize, n: usize) -> bool
+    requires { ⌜ entryRowWords * m ≤ length (now rows) ⌝ }
+    ensures { λ r. ⌜ r ≡ entryRowsOk (now (rows .entry)) m n ⌝ }
+{
+    let mut i = 0;
+    while i < m {
+        if !entry_row_ok(rows, n, i) {
+            return false;
+        }
+        i += 1;
+    }
+    zero_from(rows, ENTRY_WORDS * m)
+}
+
+// Whether term `t` is not bound, or is a variable that is bound to one of `n` terms.
+fn binding_ok(rows: &[u32], bindings: &[u32], n: usize, t: usize) -> bool
+    requires { ⌜ (termWords * t + termWords ≤ length (now rows)) × (t < length (now bindings)) ⌝ }
+    ensures { λ r. ⌜ r ≡ bindingOk (bookOf (now (rows .entry)) n) (nodeOf (now (rows .entry)) t) (bindingOf (now (bindings .entry)) t) ⌝ }
+{
+    let bound = bindings[t] as usize;
+    if bound == 0 {
+        return true;
+    }
+    if rows[TERM_WORDS * t] != 0 {
+        return false;
+    }
+    bound <= n
+}
+
+// Whether the words are the bindings of `n` terms, and the words behind them 0.
+pub fn bindings_ok(rows: &[u32], bindings: &[u32], n: usize) -> bool
+    requires { ⌜ (termWords * n ≤ length (now rows)) × (n ≤ length (now bindings)) ⌝ }
+    ensures { λ r. ⌜ r ≡ bindingsOk (now (rows .entry)) (now (bindings .entry)) n ⌝ }
+{
+    let mut t = 0;
+    while t < n {
+        if !binding_ok(rows, bindings, n, t) {
+            return false;
+        }
+        t += 1;
+    }
+    zero_from(bindings, n)
 }

@@ -1,7 +1,7 @@
 -- `rows::all_below` meets its contract: the loop's invariant says that the words before `i` are below the limit, and the
 -- measure is the words that are left. Assumes nothing.
 use mathlib.Core.Path.{sym}
-use Prim.Native.Nat.{_≤_, _-_}
+use Prim.Native.Nat.{_-_}
 use native.Mathlib.Omega.{arith}
 use borrow.Author.Count.{below-none, below-more}
 use borrow.Author.Needs.{needs}
@@ -15,13 +15,13 @@ use Rattle.rows.proofs.all_below.Reads as reads
 use Rattle.rows.proofs.all_below.Lts as lts
 
 abbrev Inv-loop : tie.InvT-loop
-Inv-loop words limit i₀ i = (i ≤ length words) × Passed (λ j. ltb (getD words j 0) limit) i
+Inv-loop words limit i₀ i = Passed (λ j. ltb (getD words j 0) limit) i
 
 abbrev μ-loop : tie.MeasureT-loop
 μ-loop words limit i₀ i = length words - i
 
 loop-holds : tie.Need-loop-holds Inv-loop μ-loop
-loop-holds c = (search needs, below-none _)
+loop-holds c = below-none _
 
 mul-if1 : tie.Need-mul-if1 Inv-loop μ-loop
 mul-if1 c = search needs
@@ -43,10 +43,10 @@ loop-less : tie.Need-loop-less Inv-loop μ-loop
 loop-less c = search needs
 
 loop-again : tie.Need-loop-again Inv-loop μ-loop
-loop-again c = (search needs, below-more _ _ (c .before .before .before .loop .inv .1) (lt-ltb _ _ (c .if1 .left)))
+loop-again c = below-more _ _ (c .before .before .before .loop .inv) (lt-ltb _ _ (c .if1 .left))
 
 returns-2 : tie.Need-returns-2 Inv-loop μ-loop
-returns-2 c = sym (each-passed _ _ 0 (λ j l. c .before .loop .inv .1 j (omega (arith, l, c .loop-test .left))))
+returns-2 c = sym (each-passed _ _ 0 _ (c .loop-test .left) (c .before .loop .inv))
 
 pub all-below-spec : {M : Type 1} → statement M
 all-below-spec =

@@ -13,7 +13,11 @@ use Rattle.model.specs.Term.{Node, var, app}
 unfoldable pub fitsEntry : ℕ → ℕ → Bool
 fitsEntry entry c = cond (eqb entry 0) true (eqb entry (suc c))
 
--- What a term puts into the table.
+-- Whether a term agrees with the table, and what it puts there.
+unfoldable pub nodeFits : List ℕ → Node → Bool
+nodeFits counts var = true
+nodeFits counts (app s args) = fitsEntry (getD counts s 0) (length args)
+
 unfoldable pub noted : Node → List ℕ → List ℕ
 noted var counts = counts
 noted (app s args) counts = set counts s (suc (length args))

@@ -4,3 +4,4 @@ pub mod Zeros
 pub mod TermRow
 pub mod EntryRow
 pub mod Bindings
+pub mod Arity

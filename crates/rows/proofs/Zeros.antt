@@ -10,13 +10,8 @@ use lib.ListN.{length, take, drop, replicate}
 use lib.Dec.{eqb, ltb, leb, leb·zero, eqb·zero-suc, eqb·suc-zero}
 use lib.Seq.{take-take}
 use Rattle.model.specs.Lists.{all, isEmpty, eqNumbers, padded}
+use Rattle.theory.proofs.Lists.Laws.{all-alike}
 use Rattle.rows.proofs.Parts.{part, run, length-run, run-behind}
-
--- tests that answer alike
-pub all-alike : {A : Type 0} (p q : A → Bool) → ((x : A) → p x ≡ q x) → (xs : List A) → all p xs ≡ all q xs
-unfolding all
-all-alike p q h [] = refl
-all-alike p q h (x ∷ xs) = ap₂ _&&_ (h x) (all-alike p q h xs)
 
 -- a number below 1 is 0
 below-one : (w : ℕ) → ltb w 1 ≡ eqb 0 w

@@ -1,7 +1,7 @@
 -- Laws of the list functions of `model`: all, first, from, concatMap, pairwise, eqNumbers; and of tests. Assumes nothing.
 use mathlib.Core.Path.{_≡_, refl, ap, ap₂, sym, _∙_, subst}
 use mathlib.Core.List.{List, [], _∷_, _++_, append-assoc}
-use mathlib.Core.Bool.{Bool, true, false, cond, _&&_, and-assoc}
+use mathlib.Core.Bool.{Bool, true, false, cond, _&&_, and-assoc, and-false}
 use Prim.Native.Nat.{ℕ, zero, suc, _+_, _≤_, _<_, zero-le, suc-le-suc}
 use native.Mathlib.Nat.{le-of-suc-le-suc, not-suc-le-zero, zero-add, add-zero, add-suc, suc-add}
 use native.Mathlib.Omega.{arith}
@@ -33,6 +33,11 @@ true-T b h = subst T (sym h) tt
 pub not-T-false : (b : Bool) → (T b → ⊥) → b ≡ false
 not-T-false true h = absurd (h tt)
 not-T-false false h = refl
+
+pub and-exchange : (a b c d : Bool) → a && b && (c && d) ≡ a && c && (b && d)
+and-exchange false b c d = refl
+and-exchange true true c d = refl
+and-exchange true false c d = sym (and-false c)
 
 -- the index that `first` gives is `cond b 0 (suc n)`, where b is the first element's test and n its index behind: a bound
 cond-le : (b : Bool) {n m : ℕ} → n ≤ m → cond b 0 (suc n) ≤ suc m
@@ -67,6 +72,18 @@ module _ {A : Type 0} where
   unfolding all
   all-append p [] ys = refl
   all-append p (x ∷ xs) ys = rw (all-append p xs ys, ← and-assoc (p x))
+
+  -- tests that answer alike
+  pub all-alike : (p q : A → Bool) → ((x : A) → p x ≡ q x) → (xs : List A) → all p xs ≡ all q xs
+  unfolding all
+  all-alike p q h [] = refl
+  all-alike p q h (x ∷ xs) = ap₂ _&&_ (h x) (all-alike p q h xs)
+
+  -- two tests of every element
+  pub all-and : (p q : A → Bool) (xs : List A) → all (λ x. p x && q x) xs ≡ all p xs && all q xs
+  unfolding all
+  all-and p q [] = refl
+  all-and p q (x ∷ xs) = rw (all-and p q xs) (and-exchange (p x) (q x) (all p xs) (all q xs))
 
   -- the element at the index that `first` gives at the test b of x passes, where the one at n behind does
   cond-holds : (p : A → Bool) (x : A) (xs : List A) (d : A) (n : ℕ) (b : Bool) → p x ≡ b → (n < length xs → T (p (getD xs n d)))

@@ -5,3 +5,4 @@ pub mod TermRow
 pub mod EntryRow
 pub mod Bindings
 pub mod Arity
+pub mod TermRows

@@ -3,15 +3,16 @@
 ghost use mathlib.Core.Path.{_≡_};
 ghost use Prim.Native.Nat.{_+_, _*_, _<_, _≤_};
 ghost use lib.ListN.{length};
-ghost use lib.Dec.{eqb, ltb};
+ghost use lib.Dec.{T, eqb, ltb};
 ghost use Rattle.model.specs.Lists.{all};
 ghost use Rattle.model.specs.Area.{termWords, entryRowWords, bindingOk};
 ghost use Rattle.layout.specs.Rows.{nodeOf, bookOf, bindingOf};
+ghost use Rattle.layout.specs.Counts.{nodeFits, noted};
 use layout::ENTRY_WORDS;
 use layout::MAX_ARITY;
 use layout::MAX_SYMBOL;
 use layout::TERM_WORDS;
-ghost use Rattle.rows.specs.RowTests.{zeroFrom, termRowOk, bindingsOk, linesOk, entryRowOk, entryRowsOk};
+ghost use Rattle.rows.specs.RowTests.{zeroFrom, termRowOk, termRowsOk, bindingsOk, linesOk, entryRowOk, entryRowsOk};
 
 // Whether every word is below the limit.
 fn all_below(words: &[u32], limit: usize) -> bool
@@ -77,6 +78,39 @@ fn term_row_ok(rows: &[u32], t: usize) -> bool
         return false;
     }
     all_zero(&rows[behind..end])
+}
+
+// Notes the count of the term in row `t`, which is a term's row, and says whether it agrees with those noted before.
+fn note_term(rows: &[u32], t: usize, counts: &mut [u8; MAX_SYMBOL + 1]) -> bool
+    requires { ⌜ (termWords * t + termWords ≤ length (now rows)) × T (termRowOk (now rows) t) ⌝ }
+    ensures fits { λ r. ⌜ r ≡ nodeFits (now (counts .entry)) (nodeOf (now (rows .entry)) t) ⌝ }
+    ensures noted { λ r. ⌜ now (counts .exit) ≡ noted (nodeOf (now (rows .entry)) t) (now (counts .entry)) ⌝ }
+{
+    let start = TERM_WORDS * t;
+    let tag = rows[start];
+    if tag == 0 {
+        return true;
+    }
+    layout::note_count(counts, (tag - 1) as usize, rows[start + 1] as u8)
+}
+
+// Whether the rows are those of `n` terms, a symbol has one count in them, and the words behind them are 0.
+pub fn term_rows_ok(rows: &[u32], n: usize) -> bool
+    requires { ⌜ termWords * n ≤ length (now rows) ⌝ }
+    ensures { λ r. ⌜ r ≡ termRowsOk (now (rows .entry)) n ⌝ }
+{
+    let mut counts = [0u8; MAX_SYMBOL + 1];
+    let mut t = 0;
+    while t < n {
+        if !term_row_ok(rows, t) {
+            return false;
+        }
+        if !note_term(rows, t, &mut counts) {
+            return false;
+        }
+        t += 1;
+    }
+    zero_from(rows, TERM_WORDS * n)
 }
 
 // Whether row `i` is an entry's row, its kind 0 or 1 and its sides below `n`.

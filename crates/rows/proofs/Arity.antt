@@ -1,25 +1,15 @@
 -- One count for a symbol, term by term: a book with one term more keeps it where the term agrees with those before, and a
 -- book with a term that does not agree with those before it has it not. Assumes nothing.
-use mathlib.Core.Path.{_≡_, refl, sym, _∙_}
-use mathlib.Core.List.{List, [], _∷_, _++_}
-use mathlib.Core.Bool.{Bool, true, false, cond, _&&_, and-true, and-false}
-use Prim.Native.Nat.{ℕ}
-use borrow.Author.Tests.{eqb-true, eqb-false, eq-eqb, ne-eqb}
+use mathlib.Core.Path.{_≡_, refl, _∙_}
+use mathlib.Core.List.{[], _∷_, _++_}
+use mathlib.Core.Bool.{true, false, _&&_, and-true, and-false}
+use borrow.Author.Tests.{eq-eqb}
 use lib.ListN.{length}
-use lib.Dec.{eqb}
 use Rattle.model.specs.Lists.{all}
 use Rattle.model.specs.Term.{Node, var, app, Book}
 use Rattle.model.specs.BookBytes.{arityFits}
-use Rattle.theory.proofs.Lists.Laws.{all-append, all-alike, all-and}
+use Rattle.theory.proofs.Lists.Laws.{eqb-sym, all-append, all-alike, all-and}
 use Rattle.rows.specs.RowTests.{nodeArityOk, oneArity}
-
--- equality of numbers, either way round
-eqb-sym : (m n : ℕ) → eqb m n ≡ eqb n m
-eqb-sym m n = go (eqb n m) refl
-  where
-    go : (b : Bool) → eqb n m ≡ b → eqb m n ≡ b
-    go true e = eq-eqb m n (sym (eqb-true n m e))
-    go false e = ne-eqb m n (λ q. eqb-false n m e (sym q))
 
 -- a term against two books
 arity-append : (b r : Book) (x : Node) → nodeArityOk (b ++ r) x ≡ nodeArityOk b x && nodeArityOk r x

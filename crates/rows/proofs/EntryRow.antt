@@ -1,16 +1,16 @@
 -- The test of an entry's row, taken apart: its sides, its kind, its count and its places. Assumes nothing.
 use mathlib.Core.Path.{_≡_, refl, sym, _∙_}
 use mathlib.Core.List.{List, [], _∷_, _++_}
-use mathlib.Core.Bool.{Bool, true, false, _&&_, and-true, and-false, and-assoc}
-use Prim.Native.Nat.{ℕ, suc, _+_, _*_, _-_, _≤_, _<_, zero-le}
+use mathlib.Core.Bool.{Bool, false, _&&_, and-true, and-false, and-assoc}
+use Prim.Native.Nat.{ℕ, _+_, _*_, _-_, _≤_, _<_, zero-le}
 use native.Mathlib.Omega.{arith}
 use borrow.Author.Tests.{le-leb, lt-leb, eq-eqb, ne-eqb}
-use lib.ListN.{length, getD, take, drop, length-drop}
+use lib.ListN.{length, take, drop, length-drop}
 use lib.Seq.{take-suc, getD-drop}
 use lib.Dec.{eqb, ltb, leb}
 use Rattle.model.specs.Limits.{maxArity}
-use Rattle.model.specs.Lists.{all, isEmpty, eqNumbers, padded}
-use Rattle.model.specs.Table.{Kind, hole, common, Entry}
+use Rattle.model.specs.Lists.{all, isEmpty, eqNumbers}
+use Rattle.model.specs.Table.{hole, common}
 use Rattle.model.specs.Area.{entryRowWords, kindWords, entryWords}
 use Rattle.theory.proofs.Lists.Laws.{T-true, eqNumbers-refl}
 use Rattle.theory.proofs.Area.Rows.{kindArguments, width-kind}
@@ -39,7 +39,7 @@ module _ (rows : List ℕ) (i : ℕ) (h : entryRowWords * i + entryRowWords ≤ 
       ≡ entryForm rows i && all (λ w. ltb w n) (part rows (entryRowWords * i) (entryRowWords * i + 2))
   unfolding entryRowOk entryForm all
   sides n =
-      rw (run, run-cons rows (entryRowWords * i) 1 0 (omega arith), run-cons rows (entryRowWords * i + 1) 0 0 (omega arith), and-true, and-assoc)
+      rw (run, run-cons rows (entryRowWords * i) 1 0 (omega arith), run-cons rows (entryRowWords * i + 1) 0 0 (omega arith), and-true, and-assoc (entryForm rows i))
 
   -- the words of the row
   row-words : take entryRowWords (drop (entryRowWords * i) rows)
@@ -49,8 +49,14 @@ module _ (rows : List ℕ) (i : ℕ) (h : entryRowWords * i + entryRowWords ≤ 
       let next : entryRowWords * i + 1 + 1 ≡ entryRowWords * i + 2 = omega arith in
       let last : entryRowWords * i + entryRowWords - 1 ≡ entryRowWords * i + 2 + 11 = omega arith in
       let room : 11 < length (drop (entryRowWords * i + 2) rows) = rw length-drop (omega arith) in
-      rw (run-cons rows (entryRowWords * i) 13 0 (omega arith), run-cons rows (entryRowWords * i + 1) 12 0 (omega arith), next,
-      take-suc (drop (entryRowWords * i + 2) rows) 11 0 room, getD-drop, last)
+      rw (
+        run-cons rows (entryRowWords * i) 13 0 (omega arith),
+        run-cons rows (entryRowWords * i + 1) 12 0 (omega arith),
+        next,
+        take-suc (drop (entryRowWords * i + 2) rows) 11 0 room,
+        getD-drop,
+        last,
+      )
 
   -- the words of its kind
   kind-words : let k = entryRowWords * i + 2 in
@@ -71,8 +77,13 @@ module _ (rows : List ℕ) (i : ℕ) (h : entryRowWords * i + entryRowWords ≤ 
       let xs = take (3 + maxArity) (drop (j + 2) rows) in
       let there : j + 4 ≡ j + 2 + 2 = omega arith in
       let wide : length xs ≡ length k = length-run rows (j + 2) (3 + maxArity) (omega arith) ∙ sym (width-kind (kindOf rows (j + 2)) e) in
-      rw (row-words, there, eq-eqb (at rows j) (at rows j) refl, eq-eqb (at rows (j + 1)) (at rows (j + 1)) refl,
-      same-behind xs k (at rows (j + entryRowWords - 1) ∷ []) wide)
+      rw (
+        row-words,
+        there,
+        eq-eqb (at rows j) (at rows j) refl,
+        eq-eqb (at rows (j + 1)) (at rows (j + 1)) refl,
+        same-behind xs k (at rows (j + entryRowWords - 1) ∷ []) wide,
+      )
 
   -- a count above the limit
   pub high-count : maxArity < at rows (entryRowWords * i + 2 + 2) → entryForm rows i ≡ false
@@ -92,25 +103,32 @@ module _ (rows : List ℕ) (i : ℕ) (h : entryRowWords * i + entryRowWords ≤ 
       rw (kind-alone (rw is-hole zero-le), is-hole, end, run-zeros rows k (3 + maxArity) (omega arith), run, kind-words, e)
       (no-count (eqb 0 (at rows (k + 1))) (at rows (k + 2)) maxArity _)
 
-  module _ (e : at rows (entryRowWords * i + 2) ≡ 0 → ⊥) where
-    -- a kind above 1
-    pub high-kind : (at rows (entryRowWords * i + 2) ≡ 1 → ⊥) → entryForm rows i ≡ false
-    unfolding entryForm loadedEntry entryWords kindOf kindWords eqNumbers
-    high-kind d =
-        let kind = at rows (entryRowWords * i + 2) in
-        rw (row-words, kind-words, ne-eqb kind 0 e, ne-eqb kind 1 d, and-false, and-false, and-false)
+  -- a kind above 1
+  pub high-kind : (at rows (entryRowWords * i + 2) ≡ 0 → ⊥) → (at rows (entryRowWords * i + 2) ≡ 1 → ⊥) → entryForm rows i ≡ false
+  unfolding entryForm loadedEntry entryWords kindOf kindWords eqNumbers
+  high-kind e d =
+      let kind = at rows (entryRowWords * i + 2) in
+      rw (row-words, kind-words, ne-eqb kind 0 e, ne-eqb kind 1 d, and-false, and-false, and-false)
 
-    -- a common entry's row: the places behind its arguments are 0
-    pub common-row : at rows (entryRowWords * i + 2) ≡ 1 → at rows (entryRowWords * i + 2 + 2) ≤ maxArity →
-        let first = entryRowWords * i + 2 + 3 in
-        entryForm rows i ≡ all (eqb 0) (part rows (first + at rows (entryRowWords * i + 2 + 2)) (entryRowWords * i + 13))
-    unfolding kindOf kindWords kindArguments eqNumbers
-    common-row d l =
-        let k = entryRowWords * i + 2 in
-        let count = at rows (k + 2) in
-        let args = take count (drop (k + 3) rows) in
-        let is-common : kindOf rows k ≡ common (at rows (k + 1)) args = rw (ne-eqb (at rows k) 0 e) in
-        let few : length args ≤ maxArity = rw (length-run rows (k + 3) count (omega arith)) l in
-        let end : entryRowWords * i + 13 ≡ k + 3 + maxArity = omega arith in
-        rw (kind-alone (rw is-common few), is-common, kind-words, le-leb count maxArity l, d, eq-eqb (at rows (k + 1)) (at rows (k + 1)) refl,
-        places-behind rows (k + 3) maxArity count (omega arith) l, end)
+  -- a common entry's row: the places behind its arguments are 0
+  pub common-row : at rows (entryRowWords * i + 2) ≡ 1 → at rows (entryRowWords * i + 2 + 2) ≤ maxArity →
+      let first = entryRowWords * i + 2 + 3 in
+      entryForm rows i ≡ all (eqb 0) (part rows (first + at rows (entryRowWords * i + 2 + 2)) (entryRowWords * i + 13))
+  unfolding kindOf kindWords kindArguments eqNumbers
+  common-row e l =
+      let k = entryRowWords * i + 2 in
+      let count = at rows (k + 2) in
+      let args = take count (drop (k + 3) rows) in
+      let is-common : kindOf rows k ≡ common (at rows (k + 1)) args = rw e in
+      let few : length args ≤ maxArity = rw (length-run rows (k + 3) count (omega arith)) l in
+      let end : entryRowWords * i + 13 ≡ k + 3 + maxArity = omega arith in
+      rw (
+        kind-alone (rw is-common few),
+        is-common,
+        kind-words,
+        le-leb count maxArity l,
+        e,
+        eq-eqb (at rows (k + 1)) (at rows (k + 1)) refl,
+        places-behind rows (k + 3) maxArity count (omega arith) l,
+        end,
+      )

@@ -1,6 +1,6 @@
 -- Parts of a list: from place a up to place e, what lies behind, the first of a run, and a run without its first places.
 -- Assumes nothing.
-use mathlib.Core.Path.{_≡_, refl}
+use mathlib.Core.Path.{_≡_}
 use mathlib.Core.List.{List, [], _∷_}
 use Prim.Native.Nat.{ℕ, zero, suc, _+_, _-_, _<_, _≤_}
 use native.Mathlib.Nat.{le-refl, sub-zero, suc-sub-suc, zero-sub, add-sub-cancel-left}

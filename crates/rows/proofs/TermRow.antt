@@ -1,15 +1,14 @@
 -- The test of a term's row, taken apart: by its first word, its count and its places. Assumes nothing.
-use mathlib.Core.Path.{_≡_, refl}
-use mathlib.Core.List.{List, [], _∷_}
-use mathlib.Core.Bool.{Bool, true, false, _&&_, and-true, and-false, and-comm}
+use mathlib.Core.Path.{_≡_}
+use mathlib.Core.List.{List, _∷_}
+use mathlib.Core.Bool.{true, false, _&&_, and-true, and-false, and-comm}
 use Prim.Native.Nat.{ℕ, suc, _+_, _*_, _-_, _≤_, _<_}
 use native.Mathlib.Omega.{arith}
 use borrow.Author.Tests.{le-leb, lt-leb, eq-eqb, ne-eqb}
 use lib.ListN.{length, take, drop}
-use lib.Dec.{eqb, ltb, leb}
+use lib.Dec.{eqb, ltb}
 use Rattle.model.specs.Limits.{maxArity, maxSymbol}
-use Rattle.model.specs.Lists.{all, isEmpty, eqNumbers, padded}
-use Rattle.model.specs.Term.{Node, var, app}
+use Rattle.model.specs.Lists.{all, eqNumbers}
 use Rattle.model.specs.Area.{termWords, nodeWords}
 use Rattle.layout.specs.Rows.{at, nodeOf}
 use Rattle.rows.specs.RowTests.{nodeInRange, termRowOk}

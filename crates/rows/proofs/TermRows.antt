@@ -1,8 +1,8 @@
 -- The tests of all term rows, row by row: the rows before row t pass, and the table of counts answers for their terms.
 -- Assumes nothing.
 use mathlib.Core.Path.{_≡_, refl, ap, sym, _∙_}
-use mathlib.Core.List.{List, [], _∷_, _++_, map}
-use mathlib.Core.Bool.{Bool, true, false, cond, _&&_, and-false}
+use mathlib.Core.List.{List, _∷_, _++_, map}
+use mathlib.Core.Bool.{Bool, true, false, cond, and-false}
 use Prim.Native.Nat.{ℕ, suc, _+_, _*_, _-_, _≤_, _<_, zero-le}
 use native.Mathlib.Omega.{arith}
 use borrow.Author.Count.{below-none, below-more}
@@ -13,7 +13,7 @@ use Rattle.model.specs.Limits.{maxArity, maxSymbol}
 use Rattle.model.specs.Lists.{all, from, eqNumbers}
 use Rattle.model.specs.Term.{Node, var, app, symbol, arguments, Book}
 use Rattle.model.specs.Area.{termWords, nodeWords}
-use Rattle.theory.proofs.Lists.Laws.{and-left, T-true, true-T}
+use Rattle.theory.proofs.Lists.Laws.{and-left, true-T}
 use Rattle.theory.proofs.Lists.Conjunctions.{and₃}
 use Rattle.layout.specs.Rows.{at, nodeOf, bookOf}
 use Rattle.layout.specs.Counts.{fitsEntry, nodeFits, noted, Suits}

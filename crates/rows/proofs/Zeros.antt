@@ -1,5 +1,5 @@
 -- Words that are 0: as a limit, and as the places behind numbers that are padded with zeros. Assumes nothing.
-use mathlib.Core.Path.{_≡_, refl, ap, ap₂, sym, _∙_}
+use mathlib.Core.Path.{_≡_, refl, ap₂}
 use mathlib.Core.List.{List, [], _∷_}
 use mathlib.Core.Bool.{Bool, true, false, _&&_, and-false}
 use Prim.Native.Nat.{ℕ, zero, suc, _+_, _≤_}
@@ -7,10 +7,10 @@ use native.Mathlib.Nat.{suc-sub-suc, sub-zero}
 use native.Mathlib.Omega.{arith}
 use borrow.Author.Tests.{le-ltb, eq-eqb}
 use lib.ListN.{length, take, drop, replicate}
-use lib.Dec.{eqb, ltb, leb, leb·zero, eqb·zero-suc, eqb·suc-zero}
+use lib.Dec.{eqb, ltb, leb, leb·zero, eqb·zero-suc}
 use lib.Seq.{take-take}
 use Rattle.model.specs.Lists.{all, isEmpty, eqNumbers, padded}
-use Rattle.theory.proofs.Lists.Laws.{all-alike}
+use Rattle.theory.proofs.Lists.Laws.{eqb-sym, all-alike}
 use Rattle.rows.proofs.Parts.{part, run, length-run, run-behind}
 
 -- a number below 1 is 0
@@ -21,16 +21,11 @@ below-one (suc w) = rw (le-ltb (suc w) 1 (omega arith), eqb·zero-suc)
 pub zeros-below-one : (words : List ℕ) → all (λ w. ltb w 1) words ≡ all (eqb 0) words
 zeros-below-one words = all-alike _ _ below-one words
 
--- equality with 0, either way round
-zero-first : (w : ℕ) → eqb w 0 ≡ eqb 0 w
-zero-first zero = refl
-zero-first (suc w) = rw (eqb·suc-zero, eqb·zero-suc)
-
 -- numbers that are zeros
 zeros : (xs : List ℕ) → eqNumbers xs (replicate (length xs) 0) ≡ all (eqb 0) xs
 unfolding eqNumbers isEmpty all
 zeros [] = refl
-zeros (x ∷ xs) = ap₂ _&&_ (zero-first x) (zeros xs)
+zeros (x ∷ xs) = ap₂ _&&_ (eqb-sym x 0) (zeros xs)
 
 -- numbers are their first c, padded with zeros, exactly when those behind are 0
 pub padded-first : (c : ℕ) (xs : List ℕ) → eqNumbers xs (padded (length xs) (take c xs)) ≡ all (eqb 0) (drop c xs)

@@ -8,11 +8,11 @@ ghost use Rattle.model.specs.Lists.{all};
 ghost use Rattle.model.specs.Area.{termWords, entryRowWords, bindingOk};
 ghost use Rattle.layout.specs.Rows.{nodeOf, bookOf, bindingOf};
 ghost use Rattle.layout.specs.Counts.{nodeFits, noted};
+ghost use Rattle.rows.specs.RowTests.{zeroFrom, termRowOk, termRowsOk, bindingsOk, linesOk, entryRowOk, entryRowsOk};
 use layout::ENTRY_WORDS;
 use layout::MAX_ARITY;
 use layout::MAX_SYMBOL;
 use layout::TERM_WORDS;
-ghost use Rattle.rows.specs.RowTests.{zeroFrom, termRowOk, termRowsOk, bindingsOk, linesOk, entryRowOk, entryRowsOk};
 
 // Whether every word is below the limit.
 fn all_below(words: &[u32], limit: usize) -> bool
@@ -41,17 +41,6 @@ pub fn zero_from(words: &[u32], from: usize) -> bool
     ensures { λ r. ⌜ r ≡ zeroFrom (now (words .entry)) from ⌝ }
 {
     all_zero(&words[from..])
-}
-
-// Whether the first `k` words are below `m`, and the others 0.
-pub fn lines_ok(lines: &[u32], k: usize, m: usize) -> bool
-    requires { ⌜ k ≤ length (now lines) ⌝ }
-    ensures { λ r. ⌜ r ≡ linesOk (now (lines .entry)) k m ⌝ }
-{
-    if !all_below(&lines[..k], m) {
-        return false;
-    }
-    zero_from(lines, k)
 }
 
 // Whether row `t` is a term's row, with its numbers in their ranges.
@@ -113,6 +102,47 @@ pub fn term_rows_ok(rows: &[u32], n: usize) -> bool
     zero_from(rows, TERM_WORDS * n)
 }
 
+// Whether term `t` is not bound, or is a variable that is bound to one of `n` terms.
+fn binding_ok(rows: &[u32], bindings: &[u32], n: usize, t: usize) -> bool
+    requires { ⌜ (termWords * t + termWords ≤ length (now rows)) × (t < length (now bindings)) ⌝ }
+    ensures { λ r. ⌜ r ≡ bindingOk (bookOf (now (rows .entry)) n) (nodeOf (now (rows .entry)) t) (bindingOf (now (bindings .entry)) t) ⌝ }
+{
+    let bound = bindings[t] as usize;
+    if bound == 0 {
+        return true;
+    }
+    if rows[TERM_WORDS * t] != 0 {
+        return false;
+    }
+    bound <= n
+}
+
+// Whether the words are the bindings of `n` terms, and the words behind them 0.
+pub fn bindings_ok(rows: &[u32], bindings: &[u32], n: usize) -> bool
+    requires { ⌜ (termWords * n ≤ length (now rows)) × (n ≤ length (now bindings)) ⌝ }
+    ensures { λ r. ⌜ r ≡ bindingsOk (now (rows .entry)) (now (bindings .entry)) n ⌝ }
+{
+    let mut t = 0;
+    while t < n {
+        if !binding_ok(rows, bindings, n, t) {
+            return false;
+        }
+        t += 1;
+    }
+    zero_from(bindings, n)
+}
+
+// Whether the first `k` words are below `m`, and the others 0.
+pub fn lines_ok(lines: &[u32], k: usize, m: usize) -> bool
+    requires { ⌜ k ≤ length (now lines) ⌝ }
+    ensures { λ r. ⌜ r ≡ linesOk (now (lines .entry)) k m ⌝ }
+{
+    if !all_below(&lines[..k], m) {
+        return false;
+    }
+    zero_from(lines, k)
+}
+
 // Whether row `i` is an entry's row, its kind 0 or 1 and its sides below `n`.
 fn entry_row_ok(rows: &[u32], n: usize, i: usize) -> bool
     requires { ⌜ entryRowWords * i + entryRowWords ≤ length (now rows) ⌝ }
@@ -151,34 +181,4 @@ pub fn entry_rows_ok(rows: &[u32], m: usize, n: usize) -> bool
         i += 1;
     }
     zero_from(rows, ENTRY_WORDS * m)
-}
-
-// Whether term `t` is not bound, or is a variable that is bound to one of `n` terms.
-fn binding_ok(rows: &[u32], bindings: &[u32], n: usize, t: usize) -> bool
-    requires { ⌜ (termWords * t + termWords ≤ length (now rows)) × (t < length (now bindings)) ⌝ }
-    ensures { λ r. ⌜ r ≡ bindingOk (bookOf (now (rows .entry)) n) (nodeOf (now (rows .entry)) t) (bindingOf (now (bindings .entry)) t) ⌝ }
-{
-    let bound = bindings[t] as usize;
-    if bound == 0 {
-        return true;
-    }
-    if rows[TERM_WORDS * t] != 0 {
-        return false;
-    }
-    bound <= n
-}
-
-// Whether the words are the bindings of `n` terms, and the words behind them 0.
-pub fn bindings_ok(rows: &[u32], bindings: &[u32], n: usize) -> bool
-    requires { ⌜ (termWords * n ≤ length (now rows)) × (n ≤ length (now bindings)) ⌝ }
-    ensures { λ r. ⌜ r ≡ bindingsOk (now (rows .entry)) (now (bindings .entry)) n ⌝ }
-{
-    let mut t = 0;
-    while t < n {
-        if !binding_ok(rows, bindings, n, t) {
-            return false;
-        }
-        t += 1;
-    }
-    zero_from(bindings, n)
 }

@@ -11,8 +11,6 @@ use lib.Dec.{ltb}
 use Rattle.rows.proofs.Loops.{Passed, each-passed, one-failed}
 use Rattle.rows.proofs.all_below.Statement.{statement}
 use Rattle.rows.proofs.all_below.Tie as tie
-use Rattle.rows.proofs.all_below.Reads as reads
-use Rattle.rows.proofs.all_below.Lts as lts
 
 abbrev Inv-loop : tie.InvT-loop
 Inv-loop words limit i₀ i = Passed (λ j. ltb (getD words j 0) limit) i

@@ -52,7 +52,7 @@ returns-5 c =
     let kind = c .before .before .before .before in
     let known = kind .before .before .before .before in
     c .all-zero2 .ensures
-    ∙ sym (common-row _ _ (known .before .before .before .before .pre) (kind .before .before .if2 .left) (kind .if3 .left) (c .before .before .if4 .left))
+    ∙ sym (common-row _ _ (known .before .before .before .before .pre) (kind .if3 .left) (c .before .before .if4 .left))
     ∙ form known
 
 pub entry-row-ok-spec : {M : Type 1} → statement M

@@ -1,5 +1,5 @@
 -- `rows::note_term` meets its contract: a row that passed has its symbol and its count in their ranges. Assumes nothing.
-use mathlib.Core.Path.{_∙_, ap}
+use mathlib.Core.Path.{_∙_}
 use native.Mathlib.Omega.{arith}
 use borrow.Author.Needs.{needs}
 use denote.Ref.{now}

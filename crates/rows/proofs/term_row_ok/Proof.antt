@@ -39,7 +39,7 @@ application : (c : tie.Else3) →
     let start = termWords * a .t in
     let last = start + 2 + at (now (a .rows)) (start + 1) in
     termRowOk (now (a .rows)) (a .t)
-        ≡ all (λ w. ltb w (a .t)) (part (now (a .rows)) (start + 2) last) && all (eqb 0) (part (now (a .rows)) last (start + termWords))
+    ≡ all (λ w. ltb w (a .t)) (part (now (a .rows)) (start + 2) last) && all (eqb 0) (part (now (a .rows)) last (start + termWords))
 application c =
     let s = c .before .before .before .before .before .before in
     application-row (now (s .args .rows)) (s .args .t) (s .pre) (c .before .before .before .if1 .left) (omega arith) (c .if3 .left)

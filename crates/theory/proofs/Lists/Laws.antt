@@ -5,6 +5,7 @@ use mathlib.Core.Bool.{Bool, true, false, cond, _&&_, and-assoc, and-false}
 use Prim.Native.Nat.{ℕ, zero, suc, _+_, _≤_, _<_, zero-le, suc-le-suc}
 use native.Mathlib.Nat.{le-of-suc-le-suc, not-suc-le-zero, zero-add, add-zero, add-suc, suc-add}
 use native.Mathlib.Omega.{arith}
+use borrow.Author.Tests.{eqb-true, eqb-false, eq-eqb, ne-eqb}
 use lib.ListN.{length, getD}
 use lib.Dec.{T, eqb, eqb→eq, eqb-refl}
 use Rattle.model.specs.Lists.{all, first, from, concatMap, pairwise, isEmpty, eqNumbers}
@@ -34,10 +35,19 @@ pub not-T-false : (b : Bool) → (T b → ⊥) → b ≡ false
 not-T-false true h = absurd (h tt)
 not-T-false false h = refl
 
+-- two pairs of tests, by their places
 pub and-exchange : (a b c d : Bool) → a && b && (c && d) ≡ a && c && (b && d)
 and-exchange false b c d = refl
 and-exchange true true c d = refl
 and-exchange true false c d = sym (and-false c)
+
+-- equality of numbers, either way round
+pub eqb-sym : (m n : ℕ) → eqb m n ≡ eqb n m
+eqb-sym m n = go (eqb n m) refl
+  where
+    go : (b : Bool) → eqb n m ≡ b → eqb m n ≡ b
+    go true e = eq-eqb m n (sym (eqb-true n m e))
+    go false e = ne-eqb m n (λ q. eqb-false n m e (sym q))
 
 -- the index that `first` gives is `cond b 0 (suc n)`, where b is the first element's test and n its index behind: a bound
 cond-le : (b : Bool) {n m : ℕ} → n ≤ m → cond b 0 (suc n) ≤ suc m

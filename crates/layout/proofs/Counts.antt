@@ -49,7 +49,7 @@ length-noted (app s args) counts = length-set counts s (suc (length args))
 pub counted-more : (before : Book) (counts : List ℕ) (x : Node) → length counts ≡ suc maxSymbol → Suits counts x
     → Counted before counts → Counted (before ++ x ∷ []) (noted x counts)
 unfolding noted arityFits all
-counted-more before counts var l h g s c m = rw (all-append, and-true) (g s c m)
+counted-more before counts var l h g s c m = rw (all-append, and-true (all (arityFits s c) before)) (g s c m)
 counted-more before counts (app s args) l h g s′ c m = rw (all-append, g s′ c m, and-true) (go (eqb s′ s) refl)
   where
     go : (b : Bool) → eqb s′ s ≡ b → fitsEntry (getD counts s′ 0) c && cond b (eqb c (length args)) true

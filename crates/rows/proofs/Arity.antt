@@ -1,5 +1,5 @@
--- One count for a symbol, term by term: a book with one term more keeps it where the term agrees with those before, and a
--- book with a term that does not agree with those before it has it not. Assumes nothing.
+-- One count for a symbol, term by term: a book with one term more has it where the term agrees with those before, and no
+-- book has it with a term that does not agree with those before it. Assumes nothing.
 use mathlib.Core.Path.{_≡_, refl, _∙_}
 use mathlib.Core.List.{[], _∷_, _++_}
 use mathlib.Core.Bool.{true, false, _&&_, and-true, and-false}

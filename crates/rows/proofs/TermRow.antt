@@ -52,7 +52,16 @@ module _ (rows : List ℕ) (t : ℕ) (h : termWords * t + termWords ≤ length r
         let tag = at rows (termWords * t) in
         let count = at rows (termWords * t + 1) in
         let first = termWords * t + 2 in
-        let end : termWords * t + termWords ≡ termWords * t + 2 + maxArity = omega arith in
+        let end : termWords * t + termWords ≡ first + maxArity = omega arith in
         let back : eqb tag (suc (tag - 1)) ≡ true = eq-eqb tag (suc (tag - 1)) (omega arith) in
-        rw (ne-eqb tag 0 e, row-words, le-leb count maxArity k, back, places-behind rows (termWords * t + 2) maxArity count (omega arith) k, le-leb (tag - 1) maxSymbol (omega arith), run, end)
+        rw (
+          ne-eqb tag 0 e,
+          row-words,
+          le-leb count maxArity k,
+          back,
+          places-behind rows first maxArity count (omega arith) k,
+          le-leb (tag - 1) maxSymbol (omega arith),
+          run,
+          end,
+        )
         (and-comm (all (eqb 0) (part rows (first + count) (first + maxArity))) (all (λ a. ltb a t) (take count (drop first rows))))

@@ -1,4 +1,4 @@
-// The tests of loaded rows that look at words alone (specs/RowTests.antt). Each only reads.
+// The tests of loaded rows that look at words alone (specs/RowTests.antt). Rows are only read.
 
 ghost use mathlib.Core.Path.{_≡_};
 ghost use Prim.Native.Nat.{_+_, _*_, _<_, _≤_};

@@ -5,17 +5,18 @@ use mathlib.Core.List.{List, [], _∷_, _++_}
 use Prim.Native.Nat.{ℕ, suc, _+_, _*_, _-_, _<_, _≤_}
 use native.Mathlib.Nat.{sub-zero}
 use native.Mathlib.Omega.{arith}
-use lib.ListN.{length, drop, replicate, length-append, length-replicate, length-set}
+use lib.ListN.{length, drop, replicate, length-append, length-replicate}
 use Rattle.model.specs.Limits.{maxSymbol}
 use Rattle.model.specs.Lists.{concatMap}
-use Rattle.model.specs.Term.{Node, var, app, Book}
+use Rattle.model.specs.Term.{Book}
 use Rattle.model.specs.Area.{termWords, nodeWords}
 use Rattle.model.specs.BookBytes.{unparsed, andThen, parseTerms}
 use Rattle.book.specs.declared.parse.Step.{Step}
 use Rattle.book.specs.declared.parse.Step.the-variants.{Next, Refused}
+use Rattle.layout.proofs.Counts.{Counted, counted-none, counted-more, length-noted}
 use Rattle.book.specs.Rows.{bookRows}
-use Rattle.book.specs.Parts.{parseTerm, noted, StepOf, TermIn, BookIn}
-use Rattle.book.proofs.Counts.{Counted, counted-none, counted-more, term-parsed}
+use Rattle.book.specs.Parts.{parseTerm, StepOf, TermIn, BookIn}
+use Rattle.book.proofs.Counts.{term-parsed}
 use Rattle.book.proofs.TermRows.{rows-none, rows-more, length-more}
 
 -- after t terms the next one is at `next`
@@ -28,12 +29,6 @@ pub record Read (bytes : List ℕ) (at count size : ℕ) (rows counts : List ℕ
   pub counted : Counted book counts
   pub symbols : length counts ≡ suc maxSymbol
   pub parse : parseTerms count [] (drop at bytes) ≡ parseTerms (count - t) book (drop next bytes)
-
--- noting a count keeps the table's length
-length-noted : (x : Node) (counts : List ℕ) → length (noted x counts) ≡ length counts
-unfolding noted
-length-noted var counts = refl
-length-noted (app s args) counts = length-set counts s (suc (length args))
 
 module _ (bytes : List ℕ) (at count size : ℕ) where
   pub read-none : (rows : List ℕ) → rows ≡ replicate size 0 → Read bytes at count size rows (replicate (suc maxSymbol) 0) at 0

@@ -12,7 +12,8 @@ use Rattle.model.specs.Area.{termWords}
 use Rattle.model.specs.BookBytes.{Parsed, parsed, unparsed, andThen, need, parseArguments}
 use Rattle.book.specs.declared.parse.Step.{Step}
 use Rattle.book.specs.declared.parse.Step.the-variants.{Next, Refused}
-use Rattle.book.specs.Parts.{parseBelow, fitsEntry, parseCounted, parseTagged, parseTerm, rowNumbers, noted, StepOf, ArgumentsIn, TermIn}
+use Rattle.layout.specs.Counts.{fitsEntry, noted}
+use Rattle.book.specs.Parts.{parseBelow, parseCounted, parseTagged, parseTerm, rowNumbers, StepOf, ArgumentsIn, TermIn}
 
 -- what holds of a part that is made of another
 step-made : {A B : Type 0} (bytes : List ℕ) (p : Parsed A) (P : A → Type 0) (q : Parsed B) (Q : B → Type 0) (f : A → B)

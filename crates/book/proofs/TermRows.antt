@@ -12,8 +12,9 @@ use Rattle.model.specs.Term.{Node, var, app, Book}
 use Rattle.model.specs.Area.{termWords, nodeWords}
 use Rattle.theory.proofs.Lists.Laws.{concatMap-append}
 use Rattle.theory.proofs.Lists.Rows.{length-padded}
+use Rattle.layout.specs.Counts.{Suits}
 use Rattle.book.specs.Rows.{bookRows}
-use Rattle.book.specs.Parts.{rowNumbers, Suits}
+use Rattle.book.specs.Parts.{rowNumbers}
 
 -- ---- stores
 

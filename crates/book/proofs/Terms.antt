@@ -2,8 +2,8 @@
 -- the others, and what rows that can be encoded give. Assumes nothing.
 use mathlib.Core.Path.{_≡_, refl, ap}
 use mathlib.Core.List.{List, [], _∷_, _++_, append-nil, map, map-append}
-use Prim.Native.Nat.{ℕ, zero, suc, _+_, _*_, _-_, _≤_, _<_}
-use native.Mathlib.Nat.{zero-add, add-zero, add-suc, suc-add}
+use Prim.Native.Nat.{ℕ, suc, _+_, _*_, _-_, _≤_, _<_}
+use native.Mathlib.Nat.{zero-add}
 use native.Mathlib.Numerals.{add-one}
 use native.Mathlib.Omega.{arith}
 use borrow.Author.Tests.{eq-eqb, ne-eqb}
@@ -16,7 +16,7 @@ use Rattle.model.specs.Lists.{all, from, concatMap}
 use Rattle.model.specs.Area.{termWords}
 use Rattle.model.specs.Report.{numberBytes}
 use Rattle.model.specs.BookBytes.{nodeNumbers, bookBytes}
-use Rattle.theory.proofs.Lists.Laws.{concatMap-append, all-at, length-from, getD-from}
+use Rattle.theory.proofs.Lists.Laws.{concatMap-append, all-at, length-from, getD-from, from-append}
 use Rattle.theory.proofs.Lists.Conjunctions.{and₄}
 use Rattle.layout.specs.Rows.{nodeOf, bookOf}
 use Rattle.book.specs.Rows.{encodable}
@@ -56,12 +56,6 @@ module _ (rows : List ℕ) (t : ℕ) (fits : RowFits rows t) where
   term-run n e = ap numberBytes e
 
 -- ---- the first terms of a book
-
--- m + k numbers are m numbers and then k
-from-append : (i m k : ℕ) → from i (m + k) ≡ from i m ++ from (i + m) k
-unfolding from
-from-append i zero k = rw (zero-add, add-zero)
-from-append i (suc m) k = rw (suc-add, from-append (suc i) m k, suc-add, add-suc)
 
 module _ (rows : List ℕ) where
   -- no term

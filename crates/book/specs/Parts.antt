@@ -2,15 +2,15 @@
 -- answers. Assumes nothing: these are definitions.
 use mathlib.Core.Path.{_≡_}
 use mathlib.Core.List.{List, [], _∷_}
-use mathlib.Core.Bool.{Bool, true, cond}
-use Prim.Native.Nat.{ℕ, zero, suc, _+_, _*_, _≤_}
-use lib.ListN.{length, getD, drop, set}
+use Prim.Native.Nat.{ℕ, zero, suc, _+_, _*_}
+use lib.ListN.{length, getD, drop}
 use lib.Seq.{sets}
-use lib.Dec.{eqb, ltb}
+use lib.Dec.{ltb}
 use Rattle.model.specs.Limits.{maxArity, maxSymbol}
 use Rattle.model.specs.Term.{Node, var, app, Book}
 use Rattle.model.specs.BookBytes.{Parsed, parsed, unparsed, andThen, need, parseNumber, parseArguments}
 use Rattle.model.specs.Area.{termWords}
+use Rattle.layout.specs.Counts.{fitsEntry, noted, Suits}
 use Rattle.book.specs.Rows.{bookRows}
 use Rattle.book.specs.declared.parse.Part.{Part}
 use Rattle.book.specs.declared.parse.Part.the-variants.{Value, Refused as NoPart}
@@ -20,10 +20,6 @@ use Rattle.book.specs.declared.parse.Step.the-variants.{Next, Refused as
 -- A number below the limit (else the refusal k): refusals 1, 2 and k.
 unfoldable pub parseBelow : ℕ → ℕ → List ℕ → Parsed ℕ
 parseBelow limit k bytes = andThen (parseNumber bytes) (λ n rest. need (ltb n limit) k (parsed n rest))
-
--- The table of counts has 0 for a symbol that no term has, else its count plus 1. Whether count c agrees with an entry.
-unfoldable pub fitsEntry : ℕ → ℕ → Bool
-fitsEntry entry c = cond (eqb entry 0) true (eqb entry (suc c))
 
 -- Term t of symbol s, from its count on.
 unfoldable pub parseCounted : List ℕ → ℕ → ℕ → List ℕ → Parsed Node
@@ -40,14 +36,10 @@ parseTagged counts t (suc s) bytes = parseCounted counts t s bytes
 unfoldable pub parseTerm : List ℕ → ℕ → List ℕ → Parsed Node
 parseTerm counts t bytes = andThen (parseBelow (suc (suc maxSymbol)) 4 bytes) (λ tag rest. parseTagged counts t tag rest)
 
--- What a term puts into its row and into the table of counts.
+-- What a term puts into its row.
 unfoldable pub rowNumbers : Node → List ℕ
 rowNumbers var = []
 rowNumbers (app s args) = suc s ∷ length args ∷ args
-
-unfoldable pub noted : Node → List ℕ → List ℕ
-noted var counts = counts
-noted (app s args) counts = set counts s (suc (length args))
 
 -- The outcome that a reader of a number answers.
 abbrev pub partOf : List ℕ → Part → Parsed ℕ
@@ -63,11 +55,6 @@ StepOf {A} bytes p P (NoStep k) = p ≡ unparsed k
 pub record ArgumentsIn (t c : ℕ) (rows rows′ : List ℕ) (args : List ℕ) : Type 0 where
   pub as-many : length args ≡ c
   pub written : rows′ ≡ sets rows (termWords * t + 2) args
-
--- A node that may follow terms with these counts.
-abbrev pub Suits : List ℕ → Node → Type 0
-Suits counts var = Unit {0}
-Suits counts (app s args) = (s ≤ maxSymbol) × (length args ≤ maxArity) × (fitsEntry (getD counts s 0) (length args) ≡ true)
 
 -- Node n stands in row t, and its count is noted.
 pub record TermIn (t : ℕ) (counts counts′ rows rows′ : List ℕ) (n : Node) : Type 0 where

@@ -3,12 +3,12 @@
 
 ghost use mathlib.Core.Path.{_≡_};
 ghost use mathlib.Core.List.{[]};
-ghost use Prim.Native.Nat.{suc, _+_, _*_, _≤_};
-ghost use lib.ListN.{length, getD, drop, set, replicate};
+ghost use Prim.Native.Nat.{_+_, _*_, _≤_};
+ghost use lib.ListN.{length, drop, replicate};
 ghost use Rattle.model.specs.Limits.{maxArity, maxSymbol};
 ghost use Rattle.model.specs.Area.{termWords};
 ghost use Rattle.model.specs.BookBytes.{parseArguments, parseTerms};
-ghost use Rattle.book.specs.Parts.{parseBelow, parseCounted, parseTerm, partOf, fitsEntry, StepOf, ArgumentsIn, TermIn, BookIn};
+ghost use Rattle.book.specs.Parts.{parseBelow, parseCounted, parseTerm, partOf, StepOf, ArgumentsIn, TermIn, BookIn};
 
 // A count of arguments, and a term's first number (0, or its symbol plus 1), are below these.
 const COUNTS: u32 = layout::MAX_ARITY as u32 + 1;
@@ -65,22 +65,6 @@ fn read_arguments(bytes: &[u8], at: usize, t: u32, count: u32, rows: &mut [u32])
     Step::Next(next)
 }
 
-// Notes that symbol `s` has `count` arguments, and says whether no other count was noted before. (Where one was, decoding
-// ends, and the table is not used again.)
-fn note_count(counts: &mut [u8; layout::SYMBOLS], s: usize, count: u8) -> bool
-    requires { ⌜ (s ≤ maxSymbol) × (count ≤ maxArity) ⌝ }
-    ensures fits { λ r. ⌜ r ≡ fitsEntry (getD (now (counts .entry)) s 0) count ⌝ }
-    ensures noted { λ r. ⌜ now (counts .exit) ≡ set (now (counts .entry)) s (suc count) ⌝ }
-{
-    let seen = counts[s];
-    let note = count + 1;
-    counts[s] = note;
-    if seen == 0 {
-        return true;
-    }
-    seen == note
-}
-
 // Term `t` of symbol `s`, from its count on, into its row.
 fn read_app(
     bytes: &[u8],
@@ -95,7 +79,7 @@ fn read_app(
 {
     match read_below(bytes, at, COUNTS, 4) {
         Part::Value { value, next } => {
-            if !note_count(counts, s as usize, value as u8) {
+            if !layout::note_count(counts, s as usize, value as u8) {
                 return Step::Refused(6);
             }
             let place = layout::TERM_WORDS * (t as usize);

@@ -1,6 +1,6 @@
 -- What loaded rows hold, one by one: the terms, the bindings and the entries. Assumes nothing.
 use mathlib.Core.Path.{_≡_, refl, sym, _∙_}
-use mathlib.Core.List.{List, map, map-map}
+use mathlib.Core.List.{List, [], _∷_, _++_, map, map-map, map-append}
 use mathlib.Core.Bool.{Bool, true, false, cond}
 use mathlib.Core.Option.{Option, none, some}
 use Prim.Native.Nat.{ℕ, _+_, _*_, _-_, _≤_, _<_, zero-le}
@@ -14,6 +14,7 @@ use Rattle.model.specs.Lists.{from}
 use Rattle.model.specs.Term.{Node, var, app, arguments}
 use Rattle.model.specs.Table.{Entry}
 use Rattle.model.specs.Area.{termWords, bindingWord}
+use Rattle.theory.proofs.Lists.Laws.{from-append}
 use Rattle.theory.proofs.Lists.From.{length-map-from, getD-map-from}
 use Rattle.theory.proofs.Lists.Rows.{map-from}
 use Rattle.layout.specs.Rows.{at, nodeOf, bookOf, bindingOf, boundOf, loadedEntry, tableOf}
@@ -71,3 +72,13 @@ binding-words words n h =
     map-map bindingWord (bindingOf words) (from 0 n) ∙
     (rw long at (map-from (λ t. bindingWord (bindingOf words t)) 0 (take n words) 0 (λ t l.
     rw (zero-add, getD-take n words t 0 (omega arith)) (word-at (at words t) (eqb (at words t) 0) refl))))
+
+-- the terms one after the other: k more, and one
+module _ (rows : List ℕ) (t : ℕ) where
+  pub bookOf-append : (k : ℕ) → bookOf rows (t + k) ≡ bookOf rows t ++ map (nodeOf rows) (from t k)
+  unfolding bookOf
+  bookOf-append k = rw (from-append 0 t k, zero-add, map-append)
+
+  pub bookOf-more : bookOf rows (t + 1) ≡ bookOf rows t ++ nodeOf rows t ∷ []
+  unfolding from
+  bookOf-more = bookOf-append 1

@@ -1,6 +1,12 @@
 // The numbers of an area's layout and the limits, each once (docs/LAYOUT.md).
 // Functions below `fit` take the limits as parameters; only `fit` names the office's.
 
+ghost use mathlib.Core.Path.{_≡_};
+ghost use Prim.Native.Nat.{suc, _≤_};
+ghost use lib.ListN.{getD, set};
+ghost use Rattle.model.specs.Limits.{maxArity, maxSymbol};
+ghost use Rattle.layout.specs.Counts.{fitsEntry};
+
 // Bytes in a word.
 pub const WORD_BYTES: usize = 4;
 
@@ -37,3 +43,19 @@ pub const OFFICE: Limits = Limits {
     capacity: OFFICE_CAPACITY,
     lines: OFFICE_LINES,
 };
+
+// Notes that symbol `s` has `count` arguments, and says whether no other count was noted before. (Where one was, what was
+// noted last stands, and the table is of no use any more.)
+pub fn note_count(counts: &mut [u8; SYMBOLS], s: usize, count: u8) -> bool
+    requires { ⌜ (s ≤ maxSymbol) × (count ≤ maxArity) ⌝ }
+    ensures fits { λ r. ⌜ r ≡ fitsEntry (getD (now (counts .entry)) s 0) count ⌝ }
+    ensures noted { λ r. ⌜ now (counts .exit) ≡ set (now (counts .entry)) s (suc count) ⌝ }
+{
+    let seen = counts[s];
+    let note = count + 1;
+    counts[s] = note;
+    if seen == 0 {
+        return true;
+    }
+    seen == note
+}

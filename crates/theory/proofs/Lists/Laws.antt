@@ -1,10 +1,11 @@
 -- Laws of the list functions of `model`: all, first, from, concatMap, pairwise, eqNumbers; and of tests. Assumes nothing.
 use mathlib.Core.Path.{_≡_, refl, ap, ap₂, sym, _∙_, subst}
 use mathlib.Core.List.{List, [], _∷_, _++_, append-assoc}
-use mathlib.Core.Bool.{Bool, true, false, cond, _&&_}
+use mathlib.Core.Bool.{Bool, true, false, cond, _&&_, and-assoc, and-false}
 use Prim.Native.Nat.{ℕ, zero, suc, _+_, _≤_, _<_, zero-le, suc-le-suc}
-use native.Mathlib.Nat.{le-of-suc-le-suc, not-suc-le-zero}
+use native.Mathlib.Nat.{le-of-suc-le-suc, not-suc-le-zero, zero-add, add-zero, add-suc, suc-add}
 use native.Mathlib.Omega.{arith}
+use borrow.Author.Tests.{eqb-true, eqb-false, eq-eqb, ne-eqb}
 use lib.ListN.{length, getD}
 use lib.Dec.{T, eqb, eqb→eq, eqb-refl}
 use Rattle.model.specs.Lists.{all, first, from, concatMap, pairwise, isEmpty, eqNumbers}
@@ -41,6 +42,20 @@ same-test true false f g = absurd (f tt)
 same-test false true f g = absurd (g tt)
 same-test false false f g = refl
 
+-- two pairs of tests, by their places
+pub and-exchange : (a b c d : Bool) → a && b && (c && d) ≡ a && c && (b && d)
+and-exchange false b c d = refl
+and-exchange true true c d = refl
+and-exchange true false c d = sym (and-false c)
+
+-- equality of numbers, either way round
+pub eqb-sym : (m n : ℕ) → eqb m n ≡ eqb n m
+eqb-sym m n = go (eqb n m) refl
+  where
+    go : (b : Bool) → eqb n m ≡ b → eqb m n ≡ b
+    go true e = eq-eqb m n (sym (eqb-true n m e))
+    go false e = ne-eqb m n (λ q. eqb-false n m e (sym q))
+
 -- the index that `first` gives is `cond b 0 (suc n)`, where b is the first element's test and n its index behind: a bound
 cond-le : (b : Bool) {n m : ℕ} → n ≤ m → cond b 0 (suc n) ≤ suc m
 cond-le true h = zero-le
@@ -68,6 +83,24 @@ module _ {A : Type 0} where
   all-intro p [] d h = tt
   all-intro p (x ∷ xs) d h =
       and-both (p x) (all p xs) (h 0 (suc-le-suc zero-le)) (all-intro p xs d (λ i l. h (suc i) (suc-le-suc l)))
+
+  -- every element of xs ++ ys passes exactly when those of both do
+  pub all-append : (p : A → Bool) (xs ys : List A) → all p (xs ++ ys) ≡ all p xs && all p ys
+  unfolding all
+  all-append p [] ys = refl
+  all-append p (x ∷ xs) ys = rw (all-append p xs ys, ← and-assoc (p x))
+
+  -- tests that answer alike
+  pub all-alike : (p q : A → Bool) → ((x : A) → p x ≡ q x) → (xs : List A) → all p xs ≡ all q xs
+  unfolding all
+  all-alike p q h [] = refl
+  all-alike p q h (x ∷ xs) = ap₂ _&&_ (h x) (all-alike p q h xs)
+
+  -- two tests of every element
+  pub all-and : (p q : A → Bool) (xs : List A) → all (λ x. p x && q x) xs ≡ all p xs && all q xs
+  unfolding all
+  all-and p q [] = refl
+  all-and p q (x ∷ xs) = rw (all-and p q xs) (and-exchange (p x) (q x) (all p xs) (all q xs))
 
   -- the element at the index that `first` gives at the test b of x passes, where the one at n behind does
   cond-holds : (p : A → Bool) (x : A) (xs : List A) (d : A) (n : ℕ) (b : Bool) → p x ≡ b → (n < length xs → T (p (getD xs n d)))
@@ -133,6 +166,12 @@ unfolding from
 getD-from i zero j d h = absurd (not-suc-le-zero h)
 getD-from i (suc n) zero d h = omega arith
 getD-from i (suc n) (suc j) d h = getD-from (suc i) n j d (le-of-suc-le-suc h) ∙ omega arith
+
+-- m + k numbers are m numbers and then k
+pub from-append : (i m k : ℕ) → from i (m + k) ≡ from i m ++ from (i + m) k
+unfolding from
+from-append i zero k = rw (zero-add, add-zero)
+from-append i (suc m) k = rw (suc-add, from-append (suc i) m k, suc-add, add-suc)
 
 -- f of the elements at each index, for lists of one length
 pub length-pairwise : (f : ℕ → ℕ → ℕ) (xs ys : List ℕ) → length xs ≡ length ys → length (pairwise f xs ys) ≡ length xs

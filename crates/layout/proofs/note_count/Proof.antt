@@ -1,10 +1,10 @@
--- `book::parse::note_count` meets its contract: at each return the tests say whether the count fits. Assumes nothing.
+-- `layout::note_count` meets its contract: at each return the tests say whether the count fits. Assumes nothing.
 use native.Mathlib.Numerals.{add-one}
 use borrow.Author.Needs.{needs}
 use borrow.Author.Tests.{eq-eqb, ne-eqb}
-use Rattle.book.specs.Parts.{fitsEntry}
-use Rattle.book.proofs.parse.note_count.Statement.{statement}
-use Rattle.book.proofs.parse.note_count.Tie as tie
+use Rattle.layout.specs.Counts.{fitsEntry}
+use Rattle.layout.proofs.note_count.Statement.{statement}
+use Rattle.layout.proofs.note_count.Tie as tie
 
 element-copy-out-seen : tie.Need-element-copy-out-seen
 element-copy-out-seen c = search needs

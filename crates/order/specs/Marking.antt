@@ -1,0 +1,50 @@
+-- What holds between the steps of a walk through the terms: each term has a mark, 0 before it is met, 1 in progress and 2
+-- once it is finished, and the finished terms are listed. Assumes nothing: these are definitions.
+use mathlib.Core.Path.{_≡_}
+use mathlib.Core.List.{List}
+use mathlib.Core.Bool.{Bool, true, false, cond}
+use mathlib.Core.Logic.{_⊎_}
+use Prim.Native.Nat.{ℕ, zero, suc, _≤_, _<_}
+use lib.ListN.{length, getD}
+use lib.Dec.{T, eqb}
+use Rattle.model.specs.Lists.{all}
+use Rattle.model.specs.Term.{Book, Bindings, ends}
+use Rattle.order.specs.Order.{parts, Before}
+use Rattle.order.specs.declared.Walk.{Walk}
+
+-- How many numbers below n pass.
+unfoldable pub tally : (ℕ → Bool) → ℕ → ℕ
+tally p zero = 0
+tally p (suc n) = cond (p n) (suc (tally p n)) (tally p n)
+
+-- How many of the first n marks are m.
+abbrev pub marked : List ℕ → ℕ → ℕ → ℕ
+marked marks n m = tally (λ t. eqb (getD marks t 0) m) n
+
+-- As many places of the list are used as terms are finished; they hold these terms, each behind what its value is made of.
+pub record Marking (b : Book) (β : Bindings) (marks list : List ℕ) (done : ℕ) : Type 0 where
+  pub marks-fit : length b ≤ length marks
+  pub list-fit : length b ≤ length list
+  pub mark : (t : ℕ) → t < length b → getD marks t 0 ≤ 2
+  pub as-many : done ≡ marked marks (length b) 2
+  pub terms : (k : ℕ) → k < done → getD list k 0 < length b
+  pub listed : (t : ℕ) → t < length b → getD marks t 0 ≡ 2 → Before list done t
+  pub parts-first : (k j : ℕ) → k < done → j < length (parts b β (getD list k 0))
+      → Before list k (getD (parts b β (getD list k 0)) j 0)
+
+-- Where the walk of some terms accepts: they are finished, and every other term is as it was or is finished too.
+pub record Walked (b : Book) (β : Bindings) (before : List ℕ) (us : List ℕ) (marks list : List ℕ) (done : ℕ) : Type 0 where
+  pub marking : Marking b β marks list done
+  pub finished : (j : ℕ) → j < length us → getD marks (getD us j 0) 0 ≡ 2
+  pub others : (t : ℕ) → t < length b
+      → (getD marks t 0 ≡ getD before t 0) ⊎ ((getD before t 0 ≡ 0) × (getD marks t 0 ≡ 2))
+
+-- Where it refuses: within no number of steps do all of them end, unless a term in progress does.
+abbrev pub Stuck : Book → Bindings → List ℕ → List ℕ → Type 0
+Stuck b β marks us = (k : ℕ) → T (all (ends b β k) us)
+    → ((t : ℕ) → t < length b → getD marks t 0 ≡ 1 → T (ends b β k t) → ⊥) → ⊥
+
+-- A walk's answer, from the marks before it to the marks and the list behind it.
+pub record Outcome (b : Book) (β : Bindings) (before : List ℕ) (us : List ℕ) (marks list : List ℕ) (w : Walk) : Type 0 where
+  pub accepts : w .ok ≡ true → Walked b β before us marks list (w .done)
+  pub refuses : w .ok ≡ false → Stuck b β before us

@@ -3,7 +3,6 @@
 use mathlib.Core.Path.{_≡_}
 use mathlib.Core.List.{List}
 use mathlib.Core.Bool.{Bool, true, false, cond}
-use mathlib.Core.Logic.{_⊎_}
 use Prim.Native.Nat.{ℕ, zero, suc, _≤_, _<_}
 use lib.ListN.{length, getD}
 use lib.Dec.{T, eqb}
@@ -32,12 +31,16 @@ pub record Marking (b : Book) (β : Bindings) (marks list : List ℕ) (done : �
   pub parts-first : (k j : ℕ) → k < done → j < length (parts b β (getD list k 0))
       → Before list k (getD (parts b β (getD list k 0)) j 0)
 
--- Where the walk of some terms accepts: they are finished, and every other term is as it was or is finished too.
+-- A mark a stays, or goes on to finished.
+pub data Advanced (a a′ : ℕ) : Type 0 where
+  stays : a′ ≡ a → Advanced a a′
+  finishes : a ≡ 0 → a′ ≡ 2 → Advanced a a′
+
+-- Where the walk of some terms accepts: they are finished, and no other term is in progress than before.
 pub record Walked (b : Book) (β : Bindings) (before : List ℕ) (us : List ℕ) (marks list : List ℕ) (done : ℕ) : Type 0 where
   pub marking : Marking b β marks list done
   pub finished : (j : ℕ) → j < length us → getD marks (getD us j 0) 0 ≡ 2
-  pub others : (t : ℕ) → t < length b
-      → (getD marks t 0 ≡ getD before t 0) ⊎ ((getD before t 0 ≡ 0) × (getD marks t 0 ≡ 2))
+  pub others : (t : ℕ) → t < length b → Advanced (getD before t 0) (getD marks t 0)
 
 -- Where it refuses: within no number of steps do all of them end, unless a term in progress does.
 abbrev pub Stuck : Book → Bindings → List ℕ → List ℕ → Type 0

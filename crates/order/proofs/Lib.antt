@@ -1,0 +1,4 @@
+pub mod Tally
+pub mod Parts
+pub mod Walks
+pub mod Orders

@@ -6,6 +6,7 @@ use mathlib.Core.Bool.{Bool, true, false}
 use mathlib.Core.Option.{Option, none, some}
 use Prim.Native.Nat.{ℕ, zero, suc, _+_, _*_, _-_, _≤_, _<_}
 use native.Mathlib.Nat.{le-of-suc-le-suc, not-suc-le-zero}
+use native.Mathlib.Decide.{ℕ-discrete}
 use native.Mathlib.Omega.{arith}
 use lib.ListN.{length, getD}
 use lib.Dec.{T}
@@ -19,6 +20,11 @@ use Rattle.theory.proofs.Values.Ends.{argument-lt}
 use Rattle.layout.specs.Rows.{at, nodeOf, bookOf, bindingOf, boundOf, GoodTerms}
 use Rattle.layout.proofs.Rows.{length-bookOf, getD-bookOf, getD-boundOf, node-var, node-app, binding-none, binding-some, length-arguments, getD-arguments, good-formed}
 use Rattle.order.specs.Order.{partsOf, parts}
+
+-- the element of a list that has one
+only : (a i : ℕ) → i < length (a ∷ []) → a ≡ getD (a ∷ []) i 0
+only a zero l = refl
+only a (suc i) l = absurd (not-suc-le-zero (le-of-suc-le-suc l))
 
 -- ---- parts in rows
 
@@ -51,8 +57,18 @@ module _ {rows words : List ℕ} {n : ℕ} (good : GoodTerms rows words n) (t : 
         → at rows (termWords * t + 2 + i) ≡ getD (parts (bookOf rows n) (boundOf words n) t) i 0
     part-app i k = rw (parts-app h) (sym (getD-arguments good t l h i (omega (arith, count-app))))
 
-    pub few-app : at rows (termWords * t + 1) ≤ maxArity
-    few-app = good .few-arguments t l
+  module _ (e : at rows (termWords * t) ≡ 0) (i : ℕ) (k : i < length (parts (bookOf rows n) (boundOf words n) t)) where
+    pub bound-word : 1 ≤ at words t
+    bound-word = go (ℕ-discrete (at words t) 0)
+      where
+        go : Dec (at words t ≡ 0) → 1 ≤ at words t
+        go (yes f) = absurd (not-suc-le-zero (rw (parts-free e f) at k))
+        go (no f) = omega arith
+
+    pub part-bound : at words t - 1 ≡ getD (parts (bookOf rows n) (boundOf words n) t) i 0
+    part-bound =
+        let p : parts (bookOf rows n) (boundOf words n) t ≡ (at words t - 1) ∷ [] = parts-bound e (λ f. omega (arith, bound-word)) in
+        rw p (only (at words t - 1) i (rw p at k))
 
 -- ---- parts of a book
 

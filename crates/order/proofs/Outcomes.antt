@@ -10,13 +10,10 @@ use lib.ListN.{length, getD, drop, set, drop-of-length-le}
 use lib.Seq.{drop-cons}
 use Rattle.model.specs.Limits.{maxArity}
 use Rattle.model.specs.Term.{Book, Bindings}
-use Rattle.theory.proofs.Soundness.Facts.{Formed}
-use Rattle.layout.specs.Rows.{bookOf, boundOf, GoodTerms}
-use Rattle.layout.proofs.Rows.{length-bookOf, good-formed}
 use Rattle.order.specs.declared.Walk.{Walk}
 use Rattle.order.specs.Order.{parts}
 use Rattle.order.specs.Marking.{marked, Marking, Walked, Stuck, Outcome}
-use Rattle.order.proofs.Parts.{part-lt, few-parts}
+use Rattle.order.proofs.Parts.{Good, part-lt, few-parts}
 use Rattle.order.proofs.Walks.{walked-none, walked-finished, stuck-met, started, fewer-new, stuck-term, place-lt, walked-term, stuck-first, stuck-rest, no-more-new, walked-more}
 
 -- a list from i on, by its element u at i
@@ -30,14 +27,6 @@ module _ {b : Book} {β : Bindings} {before us marks list : List ℕ} {w : Walk}
 
   refused : w .ok ≡ false → Stuck b β before us → Outcome b β before us marks list w
   refused e h = record { accepts = λ f. let z : _≡_ {A = ℕ} 0 1 = cc in absurd (omega arith); refuses = λ _. h }
-
--- a book of n terms that obeys the rules of terms
-pub record Good (b : Book) (β : Bindings) (n : ℕ) : Type 0 where
-  pub size : length b ≡ n
-  pub formed : Formed b β
-
-pub good-book : {rows words : List ℕ} {n : ℕ} → GoodTerms rows words n → Good (bookOf rows n) (boundOf words n) n
-good-book {rows} {words} {n} good = record { size = length-bookOf rows n; formed = good-formed good }
 
 module _ {b : Book} {β : Bindings} {n : ℕ} (good : Good b β n) where
   -- ---- a term

@@ -72,6 +72,14 @@ module _ {rows words : List ℕ} {n : ℕ} (good : GoodTerms rows words n) (t : 
 
 -- ---- parts of a book
 
+-- a book of n terms that obeys the rules of terms
+pub record Good (b : Book) (β : Bindings) (n : ℕ) : Type 0 where
+  pub size : length b ≡ n
+  pub formed : Formed b β
+
+pub good-book : {rows words : List ℕ} {n : ℕ} → GoodTerms rows words n → Good (bookOf rows n) (boundOf words n) n
+good-book {rows} {words} {n} good = record { size = length-bookOf rows n; formed = good-formed good }
+
 -- whether a term ends, by its parts
 step-parts : (p : ℕ → Bool) (x : Node) (o : Option ℕ) → T (endsStep p x o) → T (all p (partsOf x o))
 unfolding endsStep partsOf all

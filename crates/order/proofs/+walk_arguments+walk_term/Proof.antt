@@ -7,7 +7,8 @@ use borrow.Author.Needs.{needs}
 use borrow.Author.Tests.{not-true, not-false}
 use lib.ListN.{length-set}
 use Rattle.order.specs.Marking.{marked}
-use Rattle.order.proofs.Outcomes.{good-book, term-room, outcome-finished, outcome-met, term-started, fewer-left, outcome-stuck, next-place, outcome-term, outcome-none, part-term, part-few, outcome-first, no-more-left, outcome-rest}
+use Rattle.order.proofs.Parts.{good-book}
+use Rattle.order.proofs.Outcomes.{term-room, outcome-finished, outcome-met, term-started, fewer-left, outcome-stuck, next-place, outcome-term, outcome-none, part-term, part-few, outcome-first, no-more-left, outcome-rest}
 use borrow.Fn.Kinds.{In}
 use borrow.Fn.PlainCycle.{Measures, is, falls, and}
 use Rattle.order.proofs.walk_arguments.Reads as walk-arguments

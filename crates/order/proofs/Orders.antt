@@ -1,11 +1,11 @@
 -- The walks of the terms in rising number: what holds between them, that a refusal means a value that contains itself, and
 -- that with all terms walked there is none and the list is in order. Assumes nothing.
-use mathlib.Core.Path.{_≡_, refl, sym, _∙_}
+use mathlib.Core.Path.{_≡_, sym, _∙_}
 use mathlib.Core.List.{List, [], _∷_, _++_}
 use mathlib.Core.Bool.{true, false}
 use mathlib.Core.Logic.{⊎-elim}
 use Prim.Native.Nat.{ℕ, zero, suc, _+_, _≤_, _<_}
-use native.Mathlib.Nat.{not-suc-le-zero, le-of-suc-le-suc, eq-or-lt-of-le}
+use native.Mathlib.Nat.{not-suc-le-zero, eq-or-lt-of-le}
 use native.Mathlib.Omega.{arith}
 use lib.ListN.{length, getD, take, drop, replicate, length-append, length-drop, length-replicate, getD-replicate, List·getD-append}
 use lib.Seq.{length-take-le, getD-take}
@@ -43,15 +43,15 @@ module _ {b : Book} {β : Bindings} {n : ℕ} (good : Good b β n) where
   upto-none marks list fits room =
       record {
         marking =
-          record {
-            marks-fit = rw (length-append, length-replicate, length-drop) (omega (arith, good .size));
-            list-fit = omega (arith, good .size);
-            mark = λ u l. omega (arith, clear u l);
-            as-many = sym (marked-none (length b) 2 (replicate n 0 ++ drop n marks) (λ u l e. omega (arith, clear u l)));
-            terms = λ k l. absurd (not-suc-le-zero l);
-            listed = λ u l e. absurd (omega (arith, clear u l));
-            parts-first = λ k j l i. absurd (not-suc-le-zero l);
-          };
+            record {
+              marks-fit = rw (length-append, length-replicate, length-drop) (omega (arith, good .size));
+              list-fit = omega (arith, good .size);
+              mark = λ u l. omega (arith, clear u l);
+              as-many = sym (marked-none (length b) 2 (replicate n 0 ++ drop n marks) (λ u l e. omega (arith, clear u l)));
+              terms = λ k l. absurd (not-suc-le-zero l);
+              listed = λ u l e. absurd (omega (arith, clear u l));
+              parts-first = λ k j l i. absurd (not-suc-le-zero l);
+            };
         most = omega arith;
         quiet = λ u l e. omega (arith, clear u l);
         finished = λ u l. absurd (not-suc-le-zero l);
@@ -70,7 +70,7 @@ module _ {b : Book} {β : Bindings} {n : ℕ} (good : Good b β n) where
           most = omega (arith, good .size);
           quiet = λ u k e. s .quiet u k (was-met e (w .others u k));
           finished = λ u k. ⊎-elim (λ e. rw e (w .finished 0 (omega arith)))
-            (λ o. still-finished (s .finished u o) (w .others u (omega (arith, s .most)))) (eq-or-lt-of-le (under u k));
+              (λ o. still-finished (s .finished u o) (w .others u (omega (arith, s .most)))) (eq-or-lt-of-le (under u k));
         }
       where
         under : (u : ℕ) → u < t + 1 → u ≤ t
@@ -121,7 +121,7 @@ module _ {b : Book} {β : Bindings} {n : ℕ} (good : Good b β n) where
             terms = λ k l. rw (same k l) (s .marking .terms k (early k l));
             complete = λ u l. rw as-many (before-take n (omega arith) (rw (all-done, good .size) at (s .marking .listed u l (all-finished u l))));
             parts-first = λ k j l i. rw (same k l)
-              (before-take n (omega (arith, as-many)) (s .marking .parts-first k j (early k l) (rw (same k l) at i)));
+                (before-take n (omega (arith, as-many)) (s .marking .parts-first k j (early k l) (rw (same k l) at i)));
           }
         where
           as-many : length (take n list) ≡ n

@@ -1,6 +1,6 @@
 -- The parts of a term: what they are in rows of words, that they are terms, and that a term ends one step behind them.
 -- Assumes nothing.
-use mathlib.Core.Path.{_≡_, refl, ap, sym, _∙_}
+use mathlib.Core.Path.{_≡_, refl, sym, _∙_}
 use mathlib.Core.List.{List, [], _∷_}
 use mathlib.Core.Bool.{Bool, true, false}
 use mathlib.Core.Option.{Option, none, some}
@@ -20,6 +20,7 @@ use Rattle.theory.proofs.Values.Ends.{argument-lt}
 use Rattle.layout.specs.Rows.{at, nodeOf, bookOf, bindingOf, boundOf, GoodTerms}
 use Rattle.layout.proofs.Rows.{length-bookOf, getD-bookOf, getD-boundOf, node-var, node-app, binding-none, binding-some, length-arguments, getD-arguments, good-formed}
 use Rattle.order.specs.Order.{partsOf, parts}
+use Rattle.order.specs.Marking.{partsIn}
 
 -- the element of a list that has one
 only : (a i : ℕ) → i < length (a ∷ []) → a ≡ getD (a ∷ []) i 0
@@ -30,34 +31,34 @@ only a (suc i) l = absurd (not-suc-le-zero (le-of-suc-le-suc l))
 
 module _ {rows words : List ℕ} {n : ℕ} (good : GoodTerms rows words n) (t : ℕ) (l : t < n) where
   -- the parts of term t, from its row and its word
-  in-rows : parts (bookOf rows n) (boundOf words n) t ≡ partsOf (nodeOf rows t) (bindingOf words t)
+  in-rows : partsIn rows words n t ≡ partsOf (nodeOf rows t) (bindingOf words t)
   unfolding parts
   in-rows = rw (getD-bookOf rows n t l, getD-boundOf words n t l)
 
   -- an application's are its arguments, a bound variable's is what it is bound to, a free one has none
-  parts-app : (at rows (termWords * t) ≡ 0 → ⊥) → parts (bookOf rows n) (boundOf words n) t ≡ arguments (nodeOf rows t)
+  parts-app : (at rows (termWords * t) ≡ 0 → ⊥) → partsIn rows words n t ≡ arguments (nodeOf rows t)
   unfolding partsOf arguments
   parts-app h = in-rows ∙ rw (node-app rows t h)
 
-  pub parts-free : at rows (termWords * t) ≡ 0 → at words t ≡ 0 → parts (bookOf rows n) (boundOf words n) t ≡ []
+  pub parts-free : at rows (termWords * t) ≡ 0 → at words t ≡ 0 → partsIn rows words n t ≡ []
   unfolding partsOf
   parts-free e f = in-rows ∙ rw (node-var rows t e, binding-none words t f)
 
   pub parts-bound : at rows (termWords * t) ≡ 0 → (at words t ≡ 0 → ⊥)
-      → parts (bookOf rows n) (boundOf words n) t ≡ (at words t - 1) ∷ []
+      → partsIn rows words n t ≡ (at words t - 1) ∷ []
   unfolding partsOf
   parts-bound e f = in-rows ∙ rw (node-var rows t e, binding-some words t f)
 
   -- their count and the i-th
   module _ (h : at rows (termWords * t) ≡ 0 → ⊥) where
-    pub count-app : at rows (termWords * t + 1) ≡ length (parts (bookOf rows n) (boundOf words n) t)
+    pub count-app : at rows (termWords * t + 1) ≡ length (partsIn rows words n t)
     count-app = rw (parts-app h) (sym (length-arguments good t l h))
 
-    pub part-app : (i : ℕ) → i < length (parts (bookOf rows n) (boundOf words n) t)
-        → at rows (termWords * t + 2 + i) ≡ getD (parts (bookOf rows n) (boundOf words n) t) i 0
+    pub part-app : (i : ℕ) → i < length (partsIn rows words n t)
+        → at rows (termWords * t + 2 + i) ≡ getD (partsIn rows words n t) i 0
     part-app i k = rw (parts-app h) (sym (getD-arguments good t l h i (omega (arith, count-app))))
 
-  module _ (e : at rows (termWords * t) ≡ 0) (i : ℕ) (k : i < length (parts (bookOf rows n) (boundOf words n) t)) where
+  module _ (e : at rows (termWords * t) ≡ 0) (i : ℕ) (k : i < length (partsIn rows words n t)) where
     pub bound-word : 1 ≤ at words t
     bound-word = go (ℕ-discrete (at words t) 0)
       where
@@ -65,9 +66,9 @@ module _ {rows words : List ℕ} {n : ℕ} (good : GoodTerms rows words n) (t : 
         go (yes f) = absurd (not-suc-le-zero (rw (parts-free e f) at k))
         go (no f) = omega arith
 
-    pub part-bound : at words t - 1 ≡ getD (parts (bookOf rows n) (boundOf words n) t) i 0
+    pub part-bound : at words t - 1 ≡ getD (partsIn rows words n t) i 0
     part-bound =
-        let p : parts (bookOf rows n) (boundOf words n) t ≡ (at words t - 1) ∷ [] = parts-bound e (λ f. omega (arith, bound-word)) in
+        let p : partsIn rows words n t ≡ (at words t - 1) ∷ [] = parts-bound e (λ f. omega (arith, bound-word)) in
         rw p (only (at words t - 1) i (rw p at k))
 
 -- ---- parts of a book

@@ -4,7 +4,7 @@ use mathlib.Core.List.{List}
 use mathlib.Core.Bool.{Bool, true, false, cond}
 use mathlib.Core.Logic.{⊎-elim}
 use Prim.Native.Nat.{ℕ, zero, suc, _≤_, _<_, zero-le, suc-le-suc}
-use native.Mathlib.Nat.{le-of-suc-le-suc, not-suc-le-zero, eq-or-lt-of-le, le-antisymm}
+use native.Mathlib.Nat.{le-of-suc-le-suc, not-suc-le-zero, eq-or-lt-of-le}
 use native.Mathlib.Decide.{ℕ-discrete}
 use native.Mathlib.Omega.{arith}
 use lib.ListN.{length, getD, set, length-set}
@@ -29,7 +29,7 @@ step-suc : (a : Bool) (m k : ℕ) → k ≡ suc m → cond a (suc k) k ≡ suc (
 step-suc true m k e = ap suc e
 step-suc false m k e = e
 
-pub tally-le : (p q : ℕ → Bool) (n : ℕ) → ((t : ℕ) → t < n → T (p t) → T (q t)) → tally p n ≤ tally q n
+tally-le : (p q : ℕ → Bool) (n : ℕ) → ((t : ℕ) → t < n → T (p t) → T (q t)) → tally p n ≤ tally q n
 unfolding tally
 tally-le p q zero h = zero-le
 tally-le p q (suc n) h = step-le (p n) (q n) (h n (omega arith)) (tally-le p q n (λ t l. h t (omega arith)))

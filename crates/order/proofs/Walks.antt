@@ -2,13 +2,13 @@
 -- after the other. Assumes nothing.
 use mathlib.Core.Path.{_≡_, refl, ap, sym, _∙_}
 use mathlib.Core.List.{List, [], _∷_}
-use mathlib.Core.Bool.{Bool, true, false}
+use mathlib.Core.Bool.{true}
 use mathlib.Core.Logic.{⊎-elim}
 use Prim.Native.Nat.{ℕ, zero, suc, _+_, _≤_, _<_}
 use native.Mathlib.Nat.{le-of-suc-le-suc, not-suc-le-zero, eq-or-lt-of-le}
 use native.Mathlib.Numerals.{add-one}
 use native.Mathlib.Omega.{arith}
-use lib.ListN.{length, getD, drop, set, length-set}
+use lib.ListN.{length, getD, set, length-set}
 use lib.Seq.{getD-set-same, getD-set-other}
 use lib.Dec.{T}
 use Rattle.model.specs.Lists.{all}
@@ -60,7 +60,7 @@ module _ {a a′ : ℕ} where
 module _ (b : Book) (β : Bindings) where
   -- ---- terms that are finished already, and a term in progress
 
-  pub walked-still : {marks list : List ℕ} {done : ℕ} (us : List ℕ) → Marking b β marks list done
+  walked-still : {marks list : List ℕ} {done : ℕ} (us : List ℕ) → Marking b β marks list done
       → ((j : ℕ) → j < length us → getD marks (getD us j 0) 0 ≡ 2) → Walked b β marks us marks list done
   walked-still us m h = record { marking = m; finished = h; others = λ t l. stays refl }
 
@@ -121,7 +121,7 @@ module _ (b : Book) (β : Bindings) where
 
     -- where they are finished, t is the next in the list
     module _ (formed : Formed b β) {marks′ list : List ℕ} {done : ℕ} (w : Walked b β (set marks t 1) (parts b β t) marks′ list done) where
-      pub in-progress : getD marks′ t 0 ≡ 1
+      in-progress : getD marks′ t 0 ≡ 1
       in-progress = still-met (getD-set-same marks t 1 0 (omega arith)) (w .others t l)
 
       one-more : marked (set marks′ t 2) (length b) 2 ≡ suc done

@@ -8,6 +8,7 @@ use lib.ListN.{length, getD}
 use lib.Dec.{T, eqb}
 use Rattle.model.specs.Lists.{all}
 use Rattle.model.specs.Term.{Book, Bindings, ends}
+use Rattle.layout.specs.Rows.{bookOf, boundOf, GoodTerms}
 use Rattle.order.specs.Order.{parts, Before}
 use Rattle.order.specs.declared.Walk.{Walk}
 
@@ -47,7 +48,16 @@ abbrev pub Stuck : Book → Bindings → List ℕ → List ℕ → Type 0
 Stuck b β marks us = (k : ℕ) → T (all (ends b β k) us)
     → ((t : ℕ) → t < length b → getD marks t 0 ≡ 1 → T (ends b β k t) → ⊥) → ⊥
 
--- A walk's answer, from the marks before it to the marks and the list behind it.
-pub record Outcome (b : Book) (β : Bindings) (before : List ℕ) (us : List ℕ) (marks list : List ℕ) (w : Walk) : Type 0 where
-  pub accepts : w .ok ≡ true → Walked b β before us marks list (w .done)
-  pub refuses : w .ok ≡ false → Stuck b β before us
+-- Rows of words hold n terms (crate layout): what the value of term t is made of, and what a walk of t or of that is given.
+abbrev pub partsIn : List ℕ → List ℕ → ℕ → ℕ → List ℕ
+partsIn rows words n t = parts (bookOf rows n) (boundOf words n) t
+
+pub record Ready (rows words : List ℕ) (n t : ℕ) (marks list : List ℕ) (done : ℕ) : Type 0 where
+  pub good : GoodTerms rows words n
+  pub term : t < n
+  pub marking : Marking (bookOf rows n) (boundOf words n) marks list done
+
+-- The answer of a walk of the terms us, from the marks before it to the marks and the list behind it.
+pub record Outcome (rows words : List ℕ) (n : ℕ) (us before marks list : List ℕ) (w : Walk) : Type 0 where
+  pub accepts : w .ok ≡ true → Walked (bookOf rows n) (boundOf words n) before us marks list (w .done)
+  pub refuses : w .ok ≡ false → Stuck (bookOf rows n) (boundOf words n) before us

@@ -8,14 +8,14 @@ ghost use Prim.Native.Nat.{_≤_, _<_};
 ghost use lib.ListN.{length, getD, take, drop, replicate};
 ghost use Rattle.model.specs.Term.{acyclic};
 ghost use Rattle.layout.specs.Rows.{bookOf, boundOf, GoodTerms};
-ghost use Rattle.order.specs.Order.{parts, Ordered};
-ghost use Rattle.order.specs.Marking.{Marking, Outcome};
+ghost use Rattle.order.specs.Order.{Ordered};
+ghost use Rattle.order.specs.Marking.{partsIn, Ready, Outcome};
 
 // How many terms the value of `t` is made of, one step down.
 fn part_count(rows: &[u32], bindings: &[u32], n: u32, t: u32) -> u32
     requires { ⌜ GoodTerms (now rows) (now bindings) n ⌝ }
     requires { ⌜ t < n ⌝ }
-    ensures { λ r. ⌜ r ≡ length (parts (bookOf (now (rows .entry)) n) (boundOf (now (bindings .entry)) n) t) ⌝ }
+    ensures { λ r. ⌜ r ≡ length (partsIn (now (rows .entry)) (now (bindings .entry)) n t) ⌝ }
 {
     let row = layout::TERM_WORDS * (t as usize);
     if rows[row] != 0 {
@@ -31,8 +31,8 @@ fn part_count(rows: &[u32], bindings: &[u32], n: u32, t: u32) -> u32
 fn part(rows: &[u32], bindings: &[u32], n: u32, t: u32, i: u32) -> u32
     requires { ⌜ GoodTerms (now rows) (now bindings) n ⌝ }
     requires { ⌜ t < n ⌝ }
-    requires { ⌜ i < length (parts (bookOf (now rows) n) (boundOf (now bindings) n) t) ⌝ }
-    ensures { λ r. ⌜ r ≡ getD (parts (bookOf (now (rows .entry)) n) (boundOf (now (bindings .entry)) n) t) i 0 ⌝ }
+    requires { ⌜ i < length (partsIn (now rows) (now bindings) n t) ⌝ }
+    ensures { λ r. ⌜ r ≡ getD (partsIn (now (rows .entry)) (now (bindings .entry)) n t) i 0 ⌝ }
 {
     let row = layout::TERM_WORDS * (t as usize);
     if rows[row] != 0 {
@@ -57,11 +57,8 @@ fn walk_term(
     list: &mut [u32],
     done: u32,
 ) -> Walk
-    requires { ⌜ GoodTerms (now rows) (now bindings) n ⌝ }
-    requires { ⌜ t < n ⌝ }
-    requires { ⌜ Marking (bookOf (now rows) n) (boundOf (now bindings) n) (now marks) (now list) done ⌝ }
-    ensures { λ r. ⌜ Outcome (bookOf (now (rows .entry)) n) (boundOf (now (bindings .entry)) n) (now (marks .entry)) (t ∷ [])
-        (now (marks .exit)) (now (list .exit)) r ⌝ }
+    requires { ⌜ Ready (now rows) (now bindings) n t (now marks) (now list) done ⌝ }
+    ensures { λ r. ⌜ Outcome (now (rows .entry)) (now (bindings .entry)) n (t ∷ []) (now (marks .entry)) (now (marks .exit)) (now (list .exit)) r ⌝ }
 {
     let mark = marks[t as usize];
     if mark == 2 {
@@ -95,11 +92,9 @@ fn walk_arguments(
     list: &mut [u32],
     done: u32,
 ) -> Walk
-    requires { ⌜ GoodTerms (now rows) (now bindings) n ⌝ }
-    requires { ⌜ t < n ⌝ }
-    requires { ⌜ Marking (bookOf (now rows) n) (boundOf (now bindings) n) (now marks) (now list) done ⌝ }
-    ensures { λ r. ⌜ Outcome (bookOf (now (rows .entry)) n) (boundOf (now (bindings .entry)) n) (now (marks .entry))
-        (drop i (parts (bookOf (now (rows .entry)) n) (boundOf (now (bindings .entry)) n) t)) (now (marks .exit)) (now (list .exit)) r ⌝ }
+    requires { ⌜ Ready (now rows) (now bindings) n t (now marks) (now list) done ⌝ }
+    ensures { λ r. ⌜ Outcome (now (rows .entry)) (now (bindings .entry)) n (drop i (partsIn (now (rows .entry)) (now (bindings .entry)) n t))
+        (now (marks .entry)) (now (marks .exit)) (now (list .exit)) r ⌝ }
 {
     if i >= part_count(rows, bindings, n, t) {
         return Walk { ok: true, done };

@@ -5,10 +5,9 @@ use Prim.Native.Nat.{ℕ, _+_, _*_, _-_, _<_}
 use native.Mathlib.Omega.{arith}
 use borrow.Author.Needs.{needs}
 use borrow.Author.Tests.{not-true, not-false}
-use lib.ListN.{length-set}
+use lib.ListN.{length, length-set}
 use Rattle.order.specs.Marking.{marked}
-use Rattle.order.proofs.Parts.{good-book}
-use Rattle.order.proofs.Outcomes.{term-room, outcome-finished, outcome-met, term-started, fewer-left, outcome-stuck, next-place, outcome-term, outcome-none, part-term, part-few, outcome-first, no-more-left, outcome-rest}
+use Rattle.order.proofs.Outcomes.{term-room, outcome-finished, outcome-met, outcome-none, New, start-ready, fewer-left, outcome-stuck, next-place, outcome-term, Part, part-few, part-ready, outcome-first, rest-ready, no-more-left, outcome-rest}
 use borrow.Fn.Kinds.{In}
 use borrow.Fn.PlainCycle.{Measures, is, falls, and}
 use Rattle.order.proofs.walk_arguments.Reads as walk-arguments
@@ -57,205 +56,179 @@ walk-arguments-calls m = (
 abbrev walk-term-calls : ℕ → walk-term-lts.Claims
 walk-term-calls m = (walk-arguments-below m, walk-arguments.Post)
 
-walk-arguments-part-count-requires : (m : ℕ) → walk-arguments-lts.Need-part-count-requires (walk-arguments-calls m) (walk-arguments-at m) walk-arguments.Post
-walk-arguments-part-count-requires m c κs = search needs
+module _ (m : ℕ) where
+  -- ---- walk_arguments
 
-walk-arguments-returns : (m : ℕ) → walk-arguments-lts.Need-returns (walk-arguments-calls m) (walk-arguments-at m) walk-arguments.Post
-walk-arguments-returns m c =
-    let start = c .before .before .before .before .before .before in
-    let good = good-book (start .pre .1 .0) in
-    outcome-none good (start .args .t) (start .pre .1 .1 .0) (start .args .i) (start .pre .1 .1 .1) (omega (arith, c .before .part-count .ensures))
+  -- the part that is walked
+  part-at : (c : walk-arguments-lts.After-part (walk-arguments-calls m) (walk-arguments-at m) walk-arguments.Post) →
+      let a = c .before .before .before .before .before .before .before .args in
+      Part (a .rows .now) (a .bindings .now) (a .n) (a .t) (a .marks .now) (a .list .now) (a .done) (a .i) (c .part .result)
+  part-at c =
+      record {
+        ready = c .before .before .before .before .before .before .before .pre .1;
+        inside = omega (arith, c .before .before .part-count .ensures, c .before .if1 .left);
+        is = c .part .ensures;
+      }
 
-walk-arguments-part-requires : (m : ℕ) → walk-arguments-lts.Need-part-requires (walk-arguments-calls m) (walk-arguments-at m) walk-arguments.Post
-walk-arguments-part-requires m c κs =
-    let start = c .before .before .before .before .before .before in
-    (start .pre .1 .0, (start .pre .1 .1 .0, omega (arith, c .before .part-count .ensures)))
+  walk-arguments-part-count-requires : walk-arguments-lts.Need-part-count-requires (walk-arguments-calls m) (walk-arguments-at m) walk-arguments.Post
+  walk-arguments-part-count-requires c κs = (c .before .before .before .before .pre .1 .good, c .before .before .before .before .pre .1 .term)
 
-walk-arguments-walk-term-requires : (m : ℕ) → walk-arguments-lts.Need-walk-term-requires (walk-arguments-calls m) (walk-arguments-at m) walk-arguments.Post
-walk-arguments-walk-term-requires m c κs =
-    let known = c .before .before .before in
-    let start = known .before .before .before .before .before .before in
-    let good = good-book (start .pre .1 .0) in
-    (
-      omega (arith, start .pre .0, part-few good (start .args .t) (start .pre .1 .1 .0) (start .args .i) (c .before .before .part .result) (omega (arith, known .before .part-count .ensures)) (c .before .before .part .ensures)),
-      (start .pre .1 .0, (part-term good (start .args .t) (start .pre .1 .1 .0) (start .args .i) (c .before .before .part .result) (omega (arith, known .before .part-count .ensures)) (c .before .before .part .ensures), start .pre .1 .1 .1)),
-    )
+  walk-arguments-returns : walk-arguments-lts.Need-returns (walk-arguments-calls m) (walk-arguments-at m) walk-arguments.Post
+  walk-arguments-returns c =
+      let start = c .before .before .before .before .before .before in
+      outcome-none (start .pre .1) (start .args .i) (omega (arith, c .before .part-count .ensures, c .if1 .taken))
 
-walk-arguments-same-length : (m : ℕ) → walk-arguments-lts.Need-same-length (walk-arguments-calls m) (walk-arguments-at m) walk-arguments.Post
-walk-arguments-same-length m c = search needs
+  walk-arguments-part-requires : walk-arguments-lts.Need-part-requires (walk-arguments-calls m) (walk-arguments-at m) walk-arguments.Post
+  walk-arguments-part-requires c κs =
+      let ready = c .before .before .before .before .before .before .pre .1 in
+      (ready .good, (ready .term, omega (arith, c .before .part-count .ensures, c .if1 .left)))
 
-walk-arguments-same-length-2 : (m : ℕ) → walk-arguments-lts.Need-same-length-2 (walk-arguments-calls m) (walk-arguments-at m) walk-arguments.Post
-walk-arguments-same-length-2 m c = search needs
+  walk-arguments-walk-term-requires : walk-arguments-lts.Need-walk-term-requires (walk-arguments-calls m) (walk-arguments-at m) walk-arguments.Post
+  walk-arguments-walk-term-requires c κs =
+      let part = part-at (c .before .before) in
+      (omega (arith, c .before .before .before .before .before .before .before .before .before .pre .0, part-few part), part-ready part)
 
-walk-arguments-returns-2 : (m : ℕ) → walk-arguments-lts.Need-returns-2 (walk-arguments-calls m) (walk-arguments-at m) walk-arguments.Post
-walk-arguments-returns-2 m c =
-    let known = c .before .before .before .before .before .before .before .before .before .before in
-    let start = known .before .before .before .before .before .before in
-    let good = good-book (start .pre .1 .0) in
-    outcome-first good (start .args .t) (start .pre .1 .1 .0) (start .args .i) (c .before .before .before .before .before .before .before .before .before .part .result) (omega (arith, known .before .part-count .ensures)) (c .before .before .before .before .before .before .before .before .before .part .ensures) (c .before .before .before .before .before .before .walk-term .ensures) (not-true _ (c .if2 .taken))
+  walk-arguments-same-length : walk-arguments-lts.Need-same-length (walk-arguments-calls m) (walk-arguments-at m) walk-arguments.Post
+  walk-arguments-same-length c = search needs
 
-walk-arguments-add-walk-arguments : (m : ℕ) → walk-arguments-lts.Need-add-walk-arguments (walk-arguments-calls m) (walk-arguments-at m) walk-arguments.Post
-walk-arguments-add-walk-arguments m c =
-    let known = c .before .before .before .before .before .before .before .before .before .before in
-    let start = known .before .before .before .before .before .before in
-    let good = good-book (start .pre .1 .0) in
-    omega (arith, part-few good (start .args .t) (start .pre .1 .1 .0) (start .args .i) (c .before .before .before .before .before .before .before .before .before .part .result) (omega (arith, known .before .part-count .ensures)) (c .before .before .before .before .before .before .before .before .before .part .ensures))
+  walk-arguments-same-length-2 : walk-arguments-lts.Need-same-length-2 (walk-arguments-calls m) (walk-arguments-at m) walk-arguments.Post
+  walk-arguments-same-length-2 c = search needs
 
-walk-arguments-walk-arguments-requires : (m : ℕ) → walk-arguments-lts.Need-walk-arguments-requires (walk-arguments-calls m) (walk-arguments-at m) walk-arguments.Post
-walk-arguments-walk-arguments-requires m c κs =
-    let known = c .before .before .before .before .before .before .before .before .before .before .before .before in
-    let start = known .before .before .before .before .before .before in
-    let good = good-book (start .pre .1 .0) in
-    let first = c .before .before .before .before .before .before .before .before .walk-term .ensures in
-    let ok = not-false (c .before .before .before .before .before .before .before .before .walk-term .result .ok) (c .before .before .if2 .left) in
-    (
-      omega (arith, start .pre .0, part-few good (start .args .t) (start .pre .1 .1 .0) (start .args .i) (c .before .before .before .before .before .before .before .before .before .before .before .part .result) (omega (arith, known .before .part-count .ensures)) (c .before .before .before .before .before .before .before .before .before .before .before .part .ensures), no-more-left good (start .args .t) (start .pre .1 .1 .0) (start .args .i) (c .before .before .before .before .before .before .before .before .before .before .before .part .result) (omega (arith, known .before .part-count .ensures)) (c .before .before .before .before .before .before .before .before .before .before .before .part .ensures) first ok),
-      (start .pre .1 .0, (start .pre .1 .1 .0, first .accepts ok .marking)),
-    )
+  walk-arguments-returns-2 : walk-arguments-lts.Need-returns-2 (walk-arguments-calls m) (walk-arguments-at m) walk-arguments.Post
+  walk-arguments-returns-2 c = outcome-first (part-at (c .before .before .before .before .before .before .before .before .before)) (c .before .before .before .before .before .before .walk-term .ensures) (not-true _ (c .if2 .taken))
 
-walk-arguments-same-length-3 : (m : ℕ) → walk-arguments-lts.Need-same-length-3 (walk-arguments-calls m) (walk-arguments-at m) walk-arguments.Post
-walk-arguments-same-length-3 m c = search needs
+  walk-arguments-add-walk-arguments : walk-arguments-lts.Need-add-walk-arguments (walk-arguments-calls m) (walk-arguments-at m) walk-arguments.Post
+  walk-arguments-add-walk-arguments c = omega (arith, part-few (part-at (c .before .before .before .before .before .before .before .before .before)))
 
-walk-arguments-same-length-4 : (m : ℕ) → walk-arguments-lts.Need-same-length-4 (walk-arguments-calls m) (walk-arguments-at m) walk-arguments.Post
-walk-arguments-same-length-4 m c = search needs
+  walk-arguments-walk-arguments-requires : walk-arguments-lts.Need-walk-arguments-requires (walk-arguments-calls m) (walk-arguments-at m) walk-arguments.Post
+  walk-arguments-walk-arguments-requires c κs =
+      let part = part-at (c .before .before .before .before .before .before .before .before .before .before .before) in
+      let first = c .before .before .before .before .before .before .before .before .walk-term .ensures in
+      let ok = not-false (c .before .before .before .before .before .before .before .before .walk-term .result .ok) (c .before .before .if2 .left) in
+      (omega (arith, c .before .before .before .before .before .before .before .before .before .before .before .before .before .before .before .before .before .before .pre .0, part-few part, no-more-left part first ok), rest-ready part first ok)
 
-walk-arguments-returns-3 : (m : ℕ) → walk-arguments-lts.Need-returns-3 (walk-arguments-calls m) (walk-arguments-at m) walk-arguments.Post
-walk-arguments-returns-3 m c =
-    let known = c .before .before .before .before .before .before .before .before .before .before .before .before .before .before .before .before .before in
-    let start = known .before .before .before .before .before .before in
-    let good = good-book (start .pre .1 .0) in
-    outcome-rest good (start .args .t) (start .pre .1 .1 .0) (start .args .i) (c .before .before .before .before .before .before .before .before .before .before .before .before .before .before .before .before .part .result) (omega (arith, known .before .part-count .ensures)) (c .before .before .before .before .before .before .before .before .before .before .before .before .before .before .before .before .part .ensures) (c .before .before .before .before .before .before .before .before .before .before .before .before .before .walk-term .ensures) (not-false _ (c .before .before .before .before .before .before .before .if2 .left))
-    (c .before .before .before .before .walk-arguments .ensures)
+  walk-arguments-same-length-3 : walk-arguments-lts.Need-same-length-3 (walk-arguments-calls m) (walk-arguments-at m) walk-arguments.Post
+  walk-arguments-same-length-3 c = search needs
 
-walk-term-mul-mark : (m : ℕ) → walk-term-lts.Need-mul-mark (walk-term-calls m) (walk-term-at m) walk-term.Post
-walk-term-mul-mark m c = search needs
+  walk-arguments-same-length-4 : walk-arguments-lts.Need-same-length-4 (walk-arguments-calls m) (walk-arguments-at m) walk-arguments.Post
+  walk-arguments-same-length-4 c = search needs
 
-walk-term-slice-read-mark : (m : ℕ) → walk-term-lts.Need-slice-read-mark (walk-term-calls m) (walk-term-at m) walk-term.Post
-walk-term-slice-read-mark m c =
-    let start = c .before .before .before .before .before in
-    let good = good-book (start .pre .1 .0) in
-    term-room good (start .args .t) (start .pre .1 .1 .0) (start .pre .1 .1 .1)
+  walk-arguments-returns-3 : walk-arguments-lts.Need-returns-3 (walk-arguments-calls m) (walk-arguments-at m) walk-arguments.Post
+  walk-arguments-returns-3 c =
+      outcome-rest (part-at (c .before .before .before .before .before .before .before .before .before .before .before .before .before .before .before .before)) (c .before .before .before .before .before .before .before .before .before .before .before .before .before .walk-term .ensures) (not-false _ (c .before .before .before .before .before .before .before .if2 .left)) (c .before .before .before .before .walk-arguments .ensures)
 
-walk-term-returns : (m : ℕ) → walk-term-lts.Need-returns (walk-term-calls m) (walk-term-at m) walk-term.Post
-walk-term-returns m c =
-    let start = c .before .before .before .before .before .before in
-    let good = good-book (start .pre .1 .0) in
-    outcome-finished good (start .args .t) (start .pre .1 .1 .0) (start .pre .1 .1 .1) (c .if1 .taken)
+  walk-arguments-meets : {M : Type 1} → walk-arguments-lts.Closed (walk-arguments-calls m) (walk-arguments-at m) walk-arguments.Post M
+  walk-arguments-meets =
+      walk-arguments-lts.spec (walk-arguments-calls m) (walk-arguments-at m) walk-arguments.Post
+      walk-arguments-part-count-requires
+      walk-arguments-returns
+      walk-arguments-part-requires
+      walk-arguments-walk-term-requires
+      walk-arguments-same-length
+      walk-arguments-same-length-2
+      walk-arguments-returns-2
+      walk-arguments-add-walk-arguments
+      walk-arguments-walk-arguments-requires
+      walk-arguments-same-length-3
+      walk-arguments-same-length-4
+      walk-arguments-returns-3
 
-walk-term-returns-2 : (m : ℕ) → walk-term-lts.Need-returns-2 (walk-term-calls m) (walk-term-at m) walk-term.Post
-walk-term-returns-2 m c =
-    let start = c .before .before .before .before .before .before .before in
-    let good = good-book (start .pre .1 .0) in
-    outcome-met good (start .args .t) (start .pre .1 .1 .0) (start .pre .1 .1 .1) (c .if2 .taken)
+  -- ---- walk_term
 
-walk-term-mul-marks : (m : ℕ) → walk-term-lts.Need-mul-marks (walk-term-calls m) (walk-term-at m) walk-term.Post
-walk-term-mul-marks m c = search needs
+  -- the term that is met first, and the place that it takes in the end
+  new-at : (c : walk-term-lts.Else2 (walk-term-calls m) (walk-term-at m) walk-term.Post) →
+      let a = c .before .before .before .before .before .before .before .args in
+      New (a .rows .now) (a .bindings .now) (a .n) (a .t) (a .marks .now) (a .list .now) (a .done)
+  new-at c = record { ready = c .before .before .before .before .before .before .before .pre .1; not-finished = c .before .if1 .left; not-met = c .if2 .left }
 
-walk-term-slice-write-marks : (m : ℕ) → walk-term-lts.Need-slice-write-marks (walk-term-calls m) (walk-term-at m) walk-term.Post
-walk-term-slice-write-marks m c =
-    let start = c .before .before .before .before .before .before .before in
-    let good = good-book (start .pre .1 .0) in
-    term-room good (start .args .t) (start .pre .1 .1 .0) (start .pre .1 .1 .1)
+  placed : (c : walk-term-lts.Else3 (walk-term-calls m) (walk-term-at m) walk-term.Post) →
+      let a = c .before .before .before .before .before .before .before .before .before .before .before .before .before .before .before .before .args in
+      let call = c .before .before .before .before .before .before .walk-arguments in
+      (call .result .done < a .n) × (call .result .done < length (call .last .1 .1 .1 .1 .1 .1 .0))
+      × (a .t < length (call .last .1 .1 .1 .1 .1 .0))
+  placed c = next-place (new-at (c .before .before .before .before .before .before .before .before .before)) (c .before .before .before .before .before .before .walk-arguments .ensures) (not-false _ (c .if3 .left))
 
-walk-term-walk-arguments-requires : (m : ℕ) → walk-term-lts.Need-walk-arguments-requires (walk-term-calls m) (walk-term-at m) walk-term.Post
-walk-term-walk-arguments-requires m c κs =
-    let known = c .before .before in
-    let start = known .before .before .before .before .before .before .before in
-    let good = good-book (start .pre .1 .0) in
-    (
-      omega (arith, start .pre .0, fewer-left good (start .args .t) (start .pre .1 .1 .0) (start .pre .1 .1 .1) (known .before .if1 .left) (known .if2 .left)),
-      (start .pre .1 .0, (start .pre .1 .1 .0, term-started good (start .args .t) (start .pre .1 .1 .0) (start .pre .1 .1 .1) (known .before .if1 .left) (known .if2 .left))),
-    )
+  walk-term-mul-mark : walk-term-lts.Need-mul-mark (walk-term-calls m) (walk-term-at m) walk-term.Post
+  walk-term-mul-mark c = search needs
 
-walk-term-same-length : (m : ℕ) → walk-term-lts.Need-same-length (walk-term-calls m) (walk-term-at m) walk-term.Post
-walk-term-same-length m c = c .before .before .before .before .before .before .walk-arguments .kept .1 .1 .1 .1 .1 .0 ∙ simp length-set
+  walk-term-slice-read-mark : walk-term-lts.Need-slice-read-mark (walk-term-calls m) (walk-term-at m) walk-term.Post
+  walk-term-slice-read-mark c = term-room (c .before .before .before .before .before .pre .1)
 
-walk-term-same-length-2 : (m : ℕ) → walk-term-lts.Need-same-length-2 (walk-term-calls m) (walk-term-at m) walk-term.Post
-walk-term-same-length-2 m c = search needs
+  walk-term-returns : walk-term-lts.Need-returns (walk-term-calls m) (walk-term-at m) walk-term.Post
+  walk-term-returns c = outcome-finished (c .before .before .before .before .before .before .pre .1) (c .if1 .taken)
 
-walk-term-returns-3 : (m : ℕ) → walk-term-lts.Need-returns-3 (walk-term-calls m) (walk-term-at m) walk-term.Post
-walk-term-returns-3 m c =
-    let known = c .before .before .before .before .before .before .before .before .before in
-    let start = known .before .before .before .before .before .before .before in
-    let good = good-book (start .pre .1 .0) in
-    outcome-stuck good (start .args .t) (start .pre .1 .1 .0) (start .pre .1 .1 .1) (known .before .if1 .left) (known .if2 .left) (c .before .before .before .before .before .before .walk-arguments .ensures) (not-true _ (c .if3 .taken))
+  walk-term-returns-2 : walk-term-lts.Need-returns-2 (walk-term-calls m) (walk-term-at m) walk-term.Post
+  walk-term-returns-2 c = outcome-met (c .before .before .before .before .before .before .before .pre .1) (c .if2 .taken)
 
-walk-term-mul-marks-2 : (m : ℕ) → walk-term-lts.Need-mul-marks-2 (walk-term-calls m) (walk-term-at m) walk-term.Post
-walk-term-mul-marks-2 m c = search needs
+  walk-term-mul-marks : walk-term-lts.Need-mul-marks (walk-term-calls m) (walk-term-at m) walk-term.Post
+  walk-term-mul-marks c = search needs
 
-walk-term-slice-write-marks-2 : (m : ℕ) → walk-term-lts.Need-slice-write-marks-2 (walk-term-calls m) (walk-term-at m) walk-term.Post
-walk-term-slice-write-marks-2 m c =
-    let known = c .before .before .before .before .before .before .before .before .before in
-    let start = known .before .before .before .before .before .before .before in
-    let good = good-book (start .pre .1 .0) in
-    next-place good (start .args .t) (start .pre .1 .1 .0) (start .pre .1 .1 .1) (known .before .if1 .left) (known .if2 .left) (c .before .before .before .before .before .before .walk-arguments .ensures) (not-false _ (c .if3 .left)) .2
+  walk-term-slice-write-marks : walk-term-lts.Need-slice-write-marks (walk-term-calls m) (walk-term-at m) walk-term.Post
+  walk-term-slice-write-marks c = term-room (c .before .before .before .before .before .before .before .pre .1)
 
-walk-term-cast-list : (m : ℕ) → walk-term-lts.Need-cast-list (walk-term-calls m) (walk-term-at m) walk-term.Post
-walk-term-cast-list m c = search needs
+  walk-term-walk-arguments-requires : walk-term-lts.Need-walk-arguments-requires (walk-term-calls m) (walk-term-at m) walk-term.Post
+  walk-term-walk-arguments-requires c κs =
+      let new = new-at (c .before .before) in
+      (omega (arith, c .before .before .before .before .before .before .before .before .before .pre .0, fewer-left new), start-ready new)
 
-walk-term-mul-list : (m : ℕ) → walk-term-lts.Need-mul-list (walk-term-calls m) (walk-term-at m) walk-term.Post
-walk-term-mul-list m c = search needs
+  walk-term-same-length : walk-term-lts.Need-same-length (walk-term-calls m) (walk-term-at m) walk-term.Post
+  walk-term-same-length c = c .before .before .before .before .before .before .walk-arguments .kept .1 .1 .1 .1 .1 .0 ∙ simp length-set
 
-walk-term-slice-write-list : (m : ℕ) → walk-term-lts.Need-slice-write-list (walk-term-calls m) (walk-term-at m) walk-term.Post
-walk-term-slice-write-list m c =
-    let known = c .before .before .before .before .before .before .before .before .before in
-    let start = known .before .before .before .before .before .before .before in
-    let good = good-book (start .pre .1 .0) in
-    next-place good (start .args .t) (start .pre .1 .1 .0) (start .pre .1 .1 .1) (known .before .if1 .left) (known .if2 .left) (c .before .before .before .before .before .before .walk-arguments .ensures) (not-false _ (c .if3 .left)) .1
+  walk-term-same-length-2 : walk-term-lts.Need-same-length-2 (walk-term-calls m) (walk-term-at m) walk-term.Post
+  walk-term-same-length-2 c = search needs
 
-walk-term-add-t14 : (m : ℕ) → walk-term-lts.Need-add-t14 (walk-term-calls m) (walk-term-at m) walk-term.Post
-walk-term-add-t14 m c =
-    let known = c .before .before .before .before .before .before .before .before .before in
-    let start = known .before .before .before .before .before .before .before in
-    let good = good-book (start .pre .1 .0) in
-    omega (arith, next-place good (start .args .t) (start .pre .1 .1 .0) (start .pre .1 .1 .1) (known .before .if1 .left) (known .if2 .left) (c .before .before .before .before .before .before .walk-arguments .ensures) (not-false _ (c .if3 .left)) .0, start .fits .n)
+  walk-term-returns-3 : walk-term-lts.Need-returns-3 (walk-term-calls m) (walk-term-at m) walk-term.Post
+  walk-term-returns-3 c = outcome-stuck (new-at (c .before .before .before .before .before .before .before .before .before)) (c .before .before .before .before .before .before .walk-arguments .ensures) (not-true _ (c .if3 .taken))
 
-walk-term-same-length-3 : (m : ℕ) → walk-term-lts.Need-same-length-3 (walk-term-calls m) (walk-term-at m) walk-term.Post
-walk-term-same-length-3 m c = rw length-set (c .before .before .before .before .before .before .walk-arguments .kept .1 .1 .1 .1 .1 .0 ∙ simp length-set)
+  walk-term-mul-marks-2 : walk-term-lts.Need-mul-marks-2 (walk-term-calls m) (walk-term-at m) walk-term.Post
+  walk-term-mul-marks-2 c = search needs
 
-walk-term-same-length-4 : (m : ℕ) → walk-term-lts.Need-same-length-4 (walk-term-calls m) (walk-term-at m) walk-term.Post
-walk-term-same-length-4 m c = search needs
+  walk-term-slice-write-marks-2 : walk-term-lts.Need-slice-write-marks-2 (walk-term-calls m) (walk-term-at m) walk-term.Post
+  walk-term-slice-write-marks-2 c = placed c .2
 
-walk-term-returns-4 : (m : ℕ) → walk-term-lts.Need-returns-4 (walk-term-calls m) (walk-term-at m) walk-term.Post
-walk-term-returns-4 m c =
-    let known = c .before .before .before .before .before .before .before .before .before in
-    let start = known .before .before .before .before .before .before .before in
-    let good = good-book (start .pre .1 .0) in
-    outcome-term good (start .args .t) (start .pre .1 .1 .0) (start .pre .1 .1 .1) (known .before .if1 .left) (known .if2 .left) (c .before .before .before .before .before .before .walk-arguments .ensures) (not-false _ (c .if3 .left))
+  walk-term-cast-list : walk-term-lts.Need-cast-list (walk-term-calls m) (walk-term-at m) walk-term.Post
+  walk-term-cast-list c = search needs
+
+  walk-term-mul-list : walk-term-lts.Need-mul-list (walk-term-calls m) (walk-term-at m) walk-term.Post
+  walk-term-mul-list c = search needs
+
+  walk-term-slice-write-list : walk-term-lts.Need-slice-write-list (walk-term-calls m) (walk-term-at m) walk-term.Post
+  walk-term-slice-write-list c = placed c .1
+
+  walk-term-add-t14 : walk-term-lts.Need-add-t14 (walk-term-calls m) (walk-term-at m) walk-term.Post
+  walk-term-add-t14 c = omega (arith, placed c .0, c .before .before .before .before .before .before .before .before .before .before .before .before .before .before .before .before .fits .n)
+
+  walk-term-same-length-3 : walk-term-lts.Need-same-length-3 (walk-term-calls m) (walk-term-at m) walk-term.Post
+  walk-term-same-length-3 c = rw length-set (c .before .before .before .before .before .before .walk-arguments .kept .1 .1 .1 .1 .1 .0 ∙ simp length-set)
+
+  walk-term-same-length-4 : walk-term-lts.Need-same-length-4 (walk-term-calls m) (walk-term-at m) walk-term.Post
+  walk-term-same-length-4 c = search needs
+
+  walk-term-returns-4 : walk-term-lts.Need-returns-4 (walk-term-calls m) (walk-term-at m) walk-term.Post
+  walk-term-returns-4 c = outcome-term (new-at (c .before .before .before .before .before .before .before .before .before)) (c .before .before .before .before .before .before .walk-arguments .ensures) (not-false _ (c .if3 .left))
+
+  walk-term-meets : {M : Type 1} → walk-term-lts.Closed (walk-term-calls m) (walk-term-at m) walk-term.Post M
+  walk-term-meets =
+      walk-term-lts.spec (walk-term-calls m) (walk-term-at m) walk-term.Post
+      walk-term-mul-mark
+      walk-term-slice-read-mark
+      walk-term-returns
+      walk-term-returns-2
+      walk-term-mul-marks
+      walk-term-slice-write-marks
+      walk-term-walk-arguments-requires
+      walk-term-same-length
+      walk-term-same-length-2
+      walk-term-returns-3
+      walk-term-mul-marks-2
+      walk-term-slice-write-marks-2
+      walk-term-cast-list
+      walk-term-mul-list
+      walk-term-slice-write-list
+      walk-term-add-t14
+      walk-term-same-length-3
+      walk-term-same-length-4
+      walk-term-returns-4
 
 pub +walk-arguments+walk-term-spec : {M : Type 1} → statement M
-+walk-arguments+walk-term-spec =
-    close μ-walk-arguments μ-walk-term
-    (λ m. walk-arguments-lts.spec (walk-arguments-calls m) (walk-arguments-at m) walk-arguments.Post
-    (walk-arguments-part-count-requires m)
-    (walk-arguments-returns m)
-    (walk-arguments-part-requires m)
-    (walk-arguments-walk-term-requires m)
-    (walk-arguments-same-length m)
-    (walk-arguments-same-length-2 m)
-    (walk-arguments-returns-2 m)
-    (walk-arguments-add-walk-arguments m)
-    (walk-arguments-walk-arguments-requires m)
-    (walk-arguments-same-length-3 m)
-    (walk-arguments-same-length-4 m)
-    (walk-arguments-returns-3 m))
-    (λ m. walk-term-lts.spec (walk-term-calls m) (walk-term-at m) walk-term.Post
-    (walk-term-mul-mark m)
-    (walk-term-slice-read-mark m)
-    (walk-term-returns m)
-    (walk-term-returns-2 m)
-    (walk-term-mul-marks m)
-    (walk-term-slice-write-marks m)
-    (walk-term-walk-arguments-requires m)
-    (walk-term-same-length m)
-    (walk-term-same-length-2 m)
-    (walk-term-returns-3 m)
-    (walk-term-mul-marks-2 m)
-    (walk-term-slice-write-marks-2 m)
-    (walk-term-cast-list m)
-    (walk-term-mul-list m)
-    (walk-term-slice-write-list m)
-    (walk-term-add-t14 m)
-    (walk-term-same-length-3 m)
-    (walk-term-same-length-4 m)
-    (walk-term-returns-4 m))
++walk-arguments+walk-term-spec = close μ-walk-arguments μ-walk-term (λ m. walk-arguments-meets m) (λ m. walk-term-meets m)

@@ -3,7 +3,6 @@
 use mathlib.Core.Path.{_≡_, refl, ap, _∙_}
 use mathlib.Core.List.{List, _++_}
 use Prim.Native.Nat.{ℕ, _-_, _≤_}
-use native.Mathlib.Nat.{le-antisymm}
 use native.Mathlib.Omega.{arith}
 use lib.ListN.{length, drop, set, replicate, length-set}
 use borrow.Author.Fill.{fill-none, fill-more}
@@ -36,8 +35,7 @@ loop-again : tie.Need-loop-again Inv-loop μ-loop
 loop-again c =
     let head = c .before in
     let marks = head .before .args .marks .now in
-    let i = head .loop .i in
-    (
+    let i = head .loop .i in (
       ap (λ (l : List ℕ). set l i 0) (head .loop .inv .0) ∙ fill-more i 0 marks (omega arith),
       omega arith,
       length-set (head .loop .marks) i 0 ∙ head .loop .inv .2,

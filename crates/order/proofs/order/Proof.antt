@@ -1,7 +1,7 @@
 -- `order::order` meets its contract: between the walks no term is in progress and those below `t` are finished, and the measure
 -- is the terms that are left. Assumes nothing.
-use mathlib.Core.Path.{_≡_, refl, sym, _∙_}
-use Prim.Native.Nat.{ℕ, _-_}
+use mathlib.Core.Path.{_≡_, refl, _∙_}
+use Prim.Native.Nat.{_-_}
 use native.Mathlib.Omega.{arith}
 use lib.ListN.{length}
 use borrow.Author.Needs.{needs}
@@ -24,8 +24,7 @@ clear-requires c κs = search needs
 
 loop-holds : tie.Need-loop-holds Inv-loop μ-loop
 loop-holds c =
-    let start = c .before .before .before .before .before .before .before .before in
-    (
+    let start = c .before .before .before .before .before .before .before .before in (
       rw (c .before .before .clear .ensures) (upto-none (good-book (start .pre .0)) (start .args .marks .now) (start .args .list .now) (start .pre .1 .0) (start .pre .1 .1)),
       refl,
       refl,
@@ -34,7 +33,7 @@ loop-holds c =
 walk-term-requires : tie.Need-walk-term-requires Inv-loop μ-loop
 walk-term-requires c κs =
     let head = c .before .before .before in
-    (head .before .before .before .before .before .before .before .before .before .pre .0, (c .before .before .loop-test .taken, head .loop .inv .0 .marking))
+    record { good = head .before .before .before .before .before .before .before .before .before .pre .0; term = c .before .before .loop-test .taken; marking = head .loop .inv .0 .marking }
 
 same-length : tie.Need-same-length Inv-loop μ-loop
 same-length c =
@@ -61,8 +60,7 @@ loop-again : tie.Need-loop-again Inv-loop μ-loop
 loop-again c =
     let head = c .before .before .before .before .before .before .before .before .before .before in
     let good = good-book (head .before .before .before .before .before .before .before .before .before .pre .0) in
-    let call = c .before .before .before .before .before .before .walk-term in
-    (
+    let call = c .before .before .before .before .before .before .walk-term in (
       upto-more good (head .loop .inv .0) (c .before .before .before .before .before .before .before .before .before .loop-test .taken) (call .ensures .accepts (not-false _ (c .if1 .left))),
       call .kept .1 .1 .1 .1 .0 ∙ head .loop .inv .1,
       call .kept .1 .1 .1 .1 .1 .0 ∙ head .loop .inv .2,

@@ -1,8 +1,6 @@
 -- `order::part_count` meets its contract: an application has as many parts as its row says, a bound variable one, and a free
 -- one none. Assumes nothing.
 use mathlib.Core.Path.{ap, sym}
-use mathlib.Core.List.{List}
-use Prim.Native.Nat.{ℕ}
 use borrow.Author.Needs.{needs}
 use lib.ListN.{length}
 use Rattle.order.proofs.Parts.{parts-free, parts-bound, count-app}

@@ -54,6 +54,9 @@ module _ {rows words : List ℕ} {n : ℕ} (good : GoodTerms rows words n) (t : 
     pub count-app : at rows (termWords * t + 1) ≡ length (partsIn rows words n t)
     count-app = rw (parts-app h) (sym (length-arguments good t l h))
 
+    pub argument-few : (i : ℕ) → i < length (partsIn rows words n t) → i < maxArity
+    argument-few i k = omega (arith, count-app, good .few-arguments t l)
+
     pub part-app : (i : ℕ) → i < length (partsIn rows words n t)
         → at rows (termWords * t + 2 + i) ≡ getD (partsIn rows words n t) i 0
     part-app i k = rw (parts-app h) (sym (getD-arguments good t l h i (omega (arith, count-app))))

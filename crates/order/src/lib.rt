@@ -12,14 +12,14 @@ ghost use Rattle.order.specs.Order.{Ordered};
 ghost use Rattle.order.specs.Marking.{partsIn, Ready, Outcome};
 
 // How many terms the value of `t` is made of, one step down.
-fn part_count(rows: &[u32], bindings: &[u32], n: u32, t: u32) -> u32
+fn part_count(rows: &[u32], bindings: &[u32], n: u32, t: u32) -> usize
     requires { ⌜ GoodTerms (now rows) (now bindings) n ⌝ }
     requires { ⌜ t < n ⌝ }
     ensures { λ r. ⌜ r ≡ length (partsIn (now (rows .entry)) (now (bindings .entry)) n t) ⌝ }
 {
     let row = layout::TERM_WORDS * (t as usize);
     if rows[row] != 0 {
-        return rows[row + 1];
+        return rows[row + 1] as usize;
     }
     if bindings[t as usize] == 0 {
         return 0;
@@ -28,7 +28,7 @@ fn part_count(rows: &[u32], bindings: &[u32], n: u32, t: u32) -> u32
 }
 
 // The `i`-th of them.
-fn part(rows: &[u32], bindings: &[u32], n: u32, t: u32, i: u32) -> u32
+fn part(rows: &[u32], bindings: &[u32], n: u32, t: u32, i: usize) -> u32
     requires { ⌜ GoodTerms (now rows) (now bindings) n ⌝ }
     requires { ⌜ t < n ⌝ }
     requires { ⌜ i < length (partsIn (now rows) (now bindings) n t) ⌝ }
@@ -36,7 +36,7 @@ fn part(rows: &[u32], bindings: &[u32], n: u32, t: u32, i: u32) -> u32
 {
     let row = layout::TERM_WORDS * (t as usize);
     if rows[row] != 0 {
-        return rows[row + 2 + (i as usize)];
+        return rows[row + 2 + i];
     }
     bindings[t as usize] - 1
 }
@@ -87,7 +87,7 @@ fn walk_arguments(
     bindings: &[u32],
     n: u32,
     t: u32,
-    i: u32,
+    i: usize,
     marks: &mut [u32],
     list: &mut [u32],
     done: u32,

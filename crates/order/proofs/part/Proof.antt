@@ -1,7 +1,9 @@
 -- `order::part` meets its contract: the part is an argument in the row, or what the variable is bound to. Assumes nothing.
 use native.Mathlib.Omega.{arith}
+use Prim.Native.Nat.{_<_}
 use borrow.Author.Needs.{needs}
-use Rattle.order.proofs.Parts.{count-app, part-app, bound-word, part-bound}
+use Rattle.model.specs.Limits.{maxArity}
+use Rattle.order.proofs.Parts.{argument-few, part-app, bound-word, part-bound}
 use Rattle.order.proofs.part.Statement.{statement}
 use Rattle.order.proofs.part.Tie as tie
 
@@ -17,20 +19,20 @@ shared-slice-read-if1 c = search needs
 add-result : tie.Need-add-result
 add-result c = search needs
 
+-- the argument's place in the row
+argument-place : (c : tie.Then1) → c .before .before .args .i < maxArity
+argument-place c =
+    let start = c .before .before in
+    argument-few (start .pre .0) (start .args .t) (start .pre .1 .0) (c .if1 .taken) (start .args .i) (start .pre .1 .1)
+
 add-result-2 : tie.Need-add-result-2
-add-result-2 c = search needs
+add-result-2 c = omega (arith, argument-place c)
 
 mul-result : tie.Need-mul-result
-mul-result c = search needs
+mul-result c = omega (arith, argument-place c)
 
 shared-slice-read-result : tie.Need-shared-slice-read-result
-shared-slice-read-result c =
-    let start = c .before .before .before in
-    omega (
-      arith,
-      count-app (start .pre .0) (start .args .t) (start .pre .1 .0) (c .before .if1 .taken),
-      start .pre .0 .few-arguments (start .args .t) (start .pre .1 .0),
-    )
+shared-slice-read-result c = omega (arith, argument-place (c .before))
 
 returns : tie.Need-returns
 returns c =

@@ -1,6 +1,7 @@
 -- `order::part_count` meets its contract: an application has as many parts as its row says, a bound variable one, and a free
 -- one none. Assumes nothing.
 use mathlib.Core.Path.{ap, sym}
+use native.Mathlib.Omega.{arith}
 use borrow.Author.Needs.{needs}
 use lib.ListN.{length}
 use Rattle.order.proofs.Parts.{parts-free, parts-bound, count-app}
@@ -24,6 +25,11 @@ mul-result c = search needs
 
 shared-slice-read-result : tie.Need-shared-slice-read-result
 shared-slice-read-result c = search needs
+
+cast-result : tie.Need-cast-result
+cast-result c =
+    let start = c .before .before .before in
+    omega (arith, start .pre .0 .few-arguments (start .args .t) (start .pre .1))
 
 returns : tie.Need-returns
 returns c =
@@ -56,6 +62,7 @@ part-count-spec =
     add-result
     mul-result
     shared-slice-read-result
+    cast-result
     returns
     mul-if2
     shared-slice-read-if2

@@ -34,11 +34,12 @@ before-take : {list : List ℕ} {k u : ℕ} (n : ℕ) → k ≤ n → Before lis
 before-take {list} n h p =
     record { place = p .place; early = p .early; is = getD-take n list (p .place) 0 (omega (arith, p .early)) ∙ p .is }
 
--- with the first n marks cleared no term is walked
+-- each of the first n marks is 0 once they are cleared
 cleared : (n : ℕ) (xs : List ℕ) (u : ℕ) → u < n → getD (replicate n 0 ++ xs) u 0 ≡ 0
 cleared n xs u l = List·getD-append (replicate n 0) xs 0 u (rw length-replicate l) ∙ getD-replicate n u 0 0 l
 
 module _ {b : Book} {β : Bindings} {n : ℕ} (good : Good b β n) where
+  -- then no term is walked
   pub upto-none : (marks list : List ℕ) → n ≤ length marks → n ≤ length list → Upto b β (replicate n 0 ++ drop n marks) list 0 0
   upto-none marks list fits room =
       record {

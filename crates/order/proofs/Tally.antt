@@ -106,7 +106,7 @@ module _ (n m : ℕ) where
         rw set-set at
         (marked-more (set xs t a) t l (rw length-set fits) (λ e. h (rw (getD-set-same xs t a 0 (omega arith)) at e)))
 
-    -- one fewer is m, or as many are where the mark was m neither before
+    -- one fewer is m where the mark was m, and as many are where it was another
     pub marked-fewer : getD xs t 0 ≡ m → marked xs n m ≡ suc (marked (set xs t a) n m)
     marked-fewer e = ap (λ (ys : List ℕ). marked ys n m) (rw e at (sym (set-getD xs t 0))) ∙ marked-other
 

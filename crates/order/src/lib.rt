@@ -58,7 +58,8 @@ fn walk_term(
     done: u32,
 ) -> Walk
     requires { ⌜ Ready (now rows) (now bindings) n t (now marks) (now list) done ⌝ }
-    ensures { λ r. ⌜ Outcome (now (rows .entry)) (now (bindings .entry)) n (t ∷ []) (now (marks .entry)) (now (marks .exit)) (now (list .exit)) r ⌝ }
+    ensures { λ r. ⌜ Outcome (now (rows .entry)) (now (bindings .entry)) n (t ∷ [])
+        (now (marks .entry)) (now (marks .exit)) (now (list .exit)) r ⌝ }
 {
     let mark = marks[t as usize];
     if mark == 2 {
@@ -93,7 +94,8 @@ fn walk_arguments(
     done: u32,
 ) -> Walk
     requires { ⌜ Ready (now rows) (now bindings) n t (now marks) (now list) done ⌝ }
-    ensures { λ r. ⌜ Outcome (now (rows .entry)) (now (bindings .entry)) n (drop i (partsIn (now (rows .entry)) (now (bindings .entry)) n t))
+    ensures { λ r. ⌜ Outcome (now (rows .entry)) (now (bindings .entry)) n
+        (drop i (partsIn (now (rows .entry)) (now (bindings .entry)) n t))
         (now (marks .entry)) (now (marks .exit)) (now (list .exit)) r ⌝ }
 {
     if i >= part_count(rows, bindings, n, t) {
@@ -127,7 +129,8 @@ pub fn order(rows: &[u32], bindings: &[u32], n: u32, marks: &mut [u32], list: &m
     requires { ⌜ n ≤ length (now marks) ⌝ }
     requires { ⌜ n ≤ length (now list) ⌝ }
     ensures { λ r. ⌜ r ≡ acyclic (bookOf (now (rows .entry)) n) (boundOf (now (bindings .entry)) n) ⌝ }
-    ensures { λ r. ⌜ (r ≡ true → Ordered (bookOf (now (rows .entry)) n) (boundOf (now (bindings .entry)) n) (take n (now (list .exit)))) ⌝ }
+    ensures { λ r. ⌜ (r ≡ true
+        → Ordered (bookOf (now (rows .entry)) n) (boundOf (now (bindings .entry)) n) (take n (now (list .exit)))) ⌝ }
 {
     clear(marks, n as usize);
     let mut done = 0;

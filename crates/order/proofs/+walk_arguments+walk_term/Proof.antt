@@ -95,17 +95,20 @@ module _ (m : ℕ) where
   walk-arguments-same-length-2 c = search needs
 
   walk-arguments-returns-2 : walk-arguments-lts.Need-returns-2 (walk-arguments-calls m) (walk-arguments-at m) walk-arguments.Post
-  walk-arguments-returns-2 c = outcome-first (part-at (c .before .before .before .before .before .before .before .before .before)) (c .before .before .before .before .before .before .walk-term .ensures) (not-true _ (c .if2 .taken))
+  walk-arguments-returns-2 c =
+      let called = c .before .before .before .before .before .before in
+      outcome-first (part-at (called .before .before .before)) (called .walk-term .ensures) (not-true _ (c .if2 .taken))
 
   walk-arguments-add-walk-arguments : walk-arguments-lts.Need-add-walk-arguments (walk-arguments-calls m) (walk-arguments-at m) walk-arguments.Post
   walk-arguments-add-walk-arguments c = omega (arith, part-few (part-at (c .before .before .before .before .before .before .before .before .before)))
 
   walk-arguments-walk-arguments-requires : walk-arguments-lts.Need-walk-arguments-requires (walk-arguments-calls m) (walk-arguments-at m) walk-arguments.Post
   walk-arguments-walk-arguments-requires c κs =
-      let part = part-at (c .before .before .before .before .before .before .before .before .before .before .before) in
-      let first = c .before .before .before .before .before .before .before .before .walk-term .ensures in
-      let ok = not-false (c .before .before .before .before .before .before .before .before .walk-term .result .ok) (c .before .before .if2 .left) in
-      (omega (arith, c .before .before .before .before .before .before .before .before .before .before .before .before .before .before .before .before .before .before .pre .0, part-few part, no-more-left part first ok), rest-ready part first ok)
+      let called = c .before .before .before .before .before .before .before .before in
+      let part = part-at (called .before .before .before) in
+      let first = called .walk-term .ensures in
+      let ok = not-false (called .walk-term .result .ok) (c .before .before .if2 .left) in
+      (omega (arith, called .before .before .before .before .before .before .before .before .before .before .pre .0, part-few part, no-more-left part first ok), rest-ready part first ok)
 
   walk-arguments-same-length-3 : walk-arguments-lts.Need-same-length-3 (walk-arguments-calls m) (walk-arguments-at m) walk-arguments.Post
   walk-arguments-same-length-3 c = search needs
@@ -115,7 +118,8 @@ module _ (m : ℕ) where
 
   walk-arguments-returns-3 : walk-arguments-lts.Need-returns-3 (walk-arguments-calls m) (walk-arguments-at m) walk-arguments.Post
   walk-arguments-returns-3 c =
-      outcome-rest (part-at (c .before .before .before .before .before .before .before .before .before .before .before .before .before .before .before .before)) (c .before .before .before .before .before .before .before .before .before .before .before .before .before .walk-term .ensures) (not-false _ (c .before .before .before .before .before .before .before .if2 .left)) (c .before .before .before .before .walk-arguments .ensures)
+      let called = c .before .before .before .before .before .before .before .before .before .before .before .before .before in
+      outcome-rest (part-at (called .before .before .before)) (called .walk-term .ensures) (not-false _ (c .before .before .before .before .before .before .before .if2 .left)) (c .before .before .before .before .walk-arguments .ensures)
 
   walk-arguments-meets : {M : Type 1} → walk-arguments-lts.Closed (walk-arguments-calls m) (walk-arguments-at m) walk-arguments.Post M
   walk-arguments-meets =
@@ -139,14 +143,18 @@ module _ (m : ℕ) where
   new-at : (c : walk-term-lts.Else2 (walk-term-calls m) (walk-term-at m) walk-term.Post) →
       let a = c .before .before .before .before .before .before .before .args in
       New (a .rows .now) (a .bindings .now) (a .n) (a .t) (a .marks .now) (a .list .now) (a .done)
-  new-at c = record { ready = c .before .before .before .before .before .before .before .pre .1; not-finished = c .before .if1 .left; not-met = c .if2 .left }
+  new-at c =
+      record { ready = c .before .before .before .before .before .before .before .pre .1; not-finished = c .before .if1 .left; not-met = c .if2 .left }
 
   placed : (c : walk-term-lts.Else3 (walk-term-calls m) (walk-term-at m) walk-term.Post) →
-      let a = c .before .before .before .before .before .before .before .before .before .before .before .before .before .before .before .before .args in
-      let call = c .before .before .before .before .before .before .walk-arguments in
+      let called = c .before .before .before .before .before .before in
+      let call = called .walk-arguments in
+      let a = called .before .before .before .before .before .before .before .before .before .before .args in
       (call .result .done < a .n) × (call .result .done < length (call .last .1 .1 .1 .1 .1 .1 .0))
       × (a .t < length (call .last .1 .1 .1 .1 .1 .0))
-  placed c = next-place (new-at (c .before .before .before .before .before .before .before .before .before)) (c .before .before .before .before .before .before .walk-arguments .ensures) (not-false _ (c .if3 .left))
+  placed c =
+      let called = c .before .before .before .before .before .before in
+      next-place (new-at (called .before .before .before)) (called .walk-arguments .ensures) (not-false _ (c .if3 .left))
 
   walk-term-mul-mark : walk-term-lts.Need-mul-mark (walk-term-calls m) (walk-term-at m) walk-term.Post
   walk-term-mul-mark c = search needs
@@ -178,7 +186,9 @@ module _ (m : ℕ) where
   walk-term-same-length-2 c = search needs
 
   walk-term-returns-3 : walk-term-lts.Need-returns-3 (walk-term-calls m) (walk-term-at m) walk-term.Post
-  walk-term-returns-3 c = outcome-stuck (new-at (c .before .before .before .before .before .before .before .before .before)) (c .before .before .before .before .before .before .walk-arguments .ensures) (not-true _ (c .if3 .taken))
+  walk-term-returns-3 c =
+      outcome-stuck (new-at (c .before .before .before .before .before .before .before .before .before))
+      (c .before .before .before .before .before .before .walk-arguments .ensures) (not-true _ (c .if3 .taken))
 
   walk-term-mul-marks-2 : walk-term-lts.Need-mul-marks-2 (walk-term-calls m) (walk-term-at m) walk-term.Post
   walk-term-mul-marks-2 c = search needs
@@ -196,7 +206,9 @@ module _ (m : ℕ) where
   walk-term-slice-write-list c = placed c .1
 
   walk-term-add-t14 : walk-term-lts.Need-add-t14 (walk-term-calls m) (walk-term-at m) walk-term.Post
-  walk-term-add-t14 c = omega (arith, placed c .0, c .before .before .before .before .before .before .before .before .before .before .before .before .before .before .before .before .fits .n)
+  walk-term-add-t14 c =
+      let called = c .before .before .before .before .before .before in
+      omega (arith, placed c .0, called .before .before .before .before .before .before .before .before .before .before .fits .n)
 
   walk-term-same-length-3 : walk-term-lts.Need-same-length-3 (walk-term-calls m) (walk-term-at m) walk-term.Post
   walk-term-same-length-3 c = rw length-set (c .before .before .before .before .before .before .walk-arguments .kept .1 .1 .1 .1 .1 .0 ∙ simp length-set)
@@ -205,7 +217,9 @@ module _ (m : ℕ) where
   walk-term-same-length-4 c = search needs
 
   walk-term-returns-4 : walk-term-lts.Need-returns-4 (walk-term-calls m) (walk-term-at m) walk-term.Post
-  walk-term-returns-4 c = outcome-term (new-at (c .before .before .before .before .before .before .before .before .before)) (c .before .before .before .before .before .before .walk-arguments .ensures) (not-false _ (c .if3 .left))
+  walk-term-returns-4 c =
+      let called = c .before .before .before .before .before .before in
+      outcome-term (new-at (called .before .before .before)) (called .walk-arguments .ensures) (not-false _ (c .if3 .left))
 
   walk-term-meets : {M : Type 1} → walk-term-lts.Closed (walk-term-calls m) (walk-term-at m) walk-term.Post M
   walk-term-meets =

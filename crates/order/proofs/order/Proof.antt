@@ -24,44 +24,54 @@ clear-requires c κs = search needs
 
 loop-holds : tie.Need-loop-holds Inv-loop μ-loop
 loop-holds c =
-    let start = c .before .before .before .before .before .before .before .before in (
-      rw (c .before .before .clear .ensures) (upto-none (good-book (start .pre .0)) (start .args .marks .now) (start .args .list .now) (start .pre .1 .0) (start .pre .1 .1)),
-      refl,
-      refl,
-    )
+    let start = c .before .before .before .before .before .before .before .before in
+    let none =
+    upto-none (good-book (start .pre .0)) (start .args .marks .now) (start .args .list .now) (start .pre .1 .0) (start .pre .1 .1) in
+    (rw (c .before .before .clear .ensures) none, refl, refl)
 
 walk-term-requires : tie.Need-walk-term-requires Inv-loop μ-loop
 walk-term-requires c κs =
     let head = c .before .before .before in
-    record { good = head .before .before .before .before .before .before .before .before .before .pre .0; term = c .before .before .loop-test .taken; marking = head .loop .inv .0 .marking }
+    record {
+      good = head .before .before .before .before .before .before .before .before .before .pre .0;
+      term = c .before .before .loop-test .taken;
+      marking = head .loop .inv .0 .marking;
+    }
 
 same-length : tie.Need-same-length Inv-loop μ-loop
 same-length c =
-    let head = c .before .before .before .before .before .before .before .before .before .before in
-    c .before .before .before .before .before .before .walk-term .kept .1 .1 .1 .1 .0 ∙ (head .loop .inv .1 ∙ head .before .before .before .clear .kept .0)
+    let called = c .before .before .before .before .before .before in
+    let head = called .before .before .before .before in
+    called .walk-term .kept .1 .1 .1 .1 .0 ∙ (head .loop .inv .1 ∙ head .before .before .before .clear .kept .0)
 
 same-length-2 : tie.Need-same-length-2 Inv-loop μ-loop
 same-length-2 c =
-    c .before .before .before .before .before .before .walk-term .kept .1 .1 .1 .1 .1 .0 ∙ c .before .before .before .before .before .before .before .before .before .before .loop .inv .2
+    let called = c .before .before .before .before .before .before in
+    called .walk-term .kept .1 .1 .1 .1 .1 .0 ∙ called .before .before .before .before .loop .inv .2
 
 returns : tie.Need-returns Inv-loop μ-loop
 returns c =
-    let head = c .before .before .before .before .before .before .before .before .before .before in
-    let good = good-book (head .before .before .before .before .before .before .before .before .before .pre .0) in
-    upto-refused good (head .loop .inv .0) (c .before .before .before .before .before .before .before .before .before .loop-test .taken) (c .before .before .before .before .before .before .walk-term .ensures .refuses (not-true _ (c .if1 .taken)))
+    let called = c .before .before .before .before .before .before in
+    let turn = called .before .before .before in
+    let good = good-book (turn .before .before .before .before .before .before .before .before .before .before .pre .0) in
+    upto-refused good (turn .before .loop .inv .0) (turn .loop-test .taken) (called .walk-term .ensures .refuses (not-true _ (c .if1 .taken)))
 
 add-t : tie.Need-add-t Inv-loop μ-loop
-add-t c = omega (arith, c .before .before .before .before .before .before .before .before .before .loop-test .taken, c .before .before .before .before .before .before .before .before .before .before .before .before .before .before .before .before .before .before .before .fits .n)
+add-t c =
+    let turn = c .before .before .before .before .before .before .before .before .before in
+    omega (arith, turn .loop-test .taken, turn .before .before .before .before .before .before .before .before .before .before .fits .n)
 
 loop-less : tie.Need-loop-less Inv-loop μ-loop
 loop-less c = search needs
 
 loop-again : tie.Need-loop-again Inv-loop μ-loop
 loop-again c =
-    let head = c .before .before .before .before .before .before .before .before .before .before in
-    let good = good-book (head .before .before .before .before .before .before .before .before .before .pre .0) in
-    let call = c .before .before .before .before .before .before .walk-term in (
-      upto-more good (head .loop .inv .0) (c .before .before .before .before .before .before .before .before .before .loop-test .taken) (call .ensures .accepts (not-false _ (c .if1 .left))),
+    let called = c .before .before .before .before .before .before in
+    let call = called .walk-term in
+    let turn = called .before .before .before in
+    let head = turn .before in
+    let good = good-book (head .before .before .before .before .before .before .before .before .before .pre .0) in (
+      upto-more good (head .loop .inv .0) (turn .loop-test .taken) (call .ensures .accepts (not-false _ (c .if1 .left))),
       call .kept .1 .1 .1 .1 .0 ∙ head .loop .inv .1,
       call .kept .1 .1 .1 .1 .1 .0 ∙ head .loop .inv .2,
     )

@@ -1,6 +1,6 @@
 -- `order::part` meets its contract: the part is an argument in the row, or what the variable is bound to. Assumes nothing.
-use native.Mathlib.Omega.{arith}
 use Prim.Native.Nat.{_<_}
+use native.Mathlib.Omega.{arith}
 use borrow.Author.Needs.{needs}
 use Rattle.model.specs.Limits.{maxArity}
 use Rattle.order.proofs.Parts.{argument-few, part-app, bound-word, part-bound}

@@ -6,18 +6,20 @@ use mathlib.Core.Option.{Option, none, some}
 use Prim.Native.Nat.{ℕ, _+_, _*_, _-_, _≤_, _<_, zero-le}
 use native.Mathlib.Nat.{zero-add}
 use native.Mathlib.Omega.{arith}
-use borrow.Author.Tests.{eqb-true, eqb-false}
-use lib.ListN.{length, getD, take, drop, length-take}
-use lib.Seq.{length-take-le, getD-take}
+use borrow.Author.Tests.{eqb-true, eqb-false, eq-eqb, ne-eqb}
+use lib.ListN.{length, getD, take, drop, length-take, length-drop}
+use lib.Seq.{length-take-le, getD-take, getD-drop}
 use lib.Dec.{eqb}
 use Rattle.model.specs.Lists.{from}
 use Rattle.model.specs.Term.{Node, var, app, arguments}
-use Rattle.model.specs.Table.{Entry}
+use Rattle.model.specs.Table.{Entry, entry, holeAt}
 use Rattle.model.specs.Area.{termWords, bindingWord}
 use Rattle.theory.proofs.Lists.Laws.{from-append}
 use Rattle.theory.proofs.Lists.From.{length-map-from, getD-map-from}
 use Rattle.theory.proofs.Lists.Rows.{map-from}
-use Rattle.layout.specs.Rows.{at, nodeOf, bookOf, bindingOf, boundOf, loadedEntry, tableOf}
+use Rattle.theory.proofs.Soundness.Facts.{Formed}
+use Rattle.theory.proofs.Soundness.Terms.{formed-facts}
+use Rattle.layout.specs.Rows.{at, nodeOf, bookOf, bindingOf, boundOf, loadedEntry, tableOf, GoodTerms}
 
 module _ (words : List ℕ) (n : ℕ) where
   -- as many as were asked for
@@ -34,17 +36,18 @@ module _ (words : List ℕ) (n : ℕ) where
   length-tableOf = length-map-from (loadedEntry words) 0 n
 
   -- the one at place i
-  pub getD-bookOf : (i : ℕ) (d : Node) → i < n → getD (bookOf words n) i d ≡ nodeOf words i
-  unfolding bookOf
-  getD-bookOf i d h = rw zero-add at (getD-map-from (nodeOf words) 0 n i d h)
+  module _ (i : ℕ) (h : i < n) where
+    pub getD-bookOf : getD (bookOf words n) i var ≡ nodeOf words i
+    unfolding bookOf
+    getD-bookOf = rw zero-add at (getD-map-from (nodeOf words) 0 n i var h)
 
-  pub getD-boundOf : (i : ℕ) (d : Option ℕ) → i < n → getD (boundOf words n) i d ≡ bindingOf words i
-  unfolding boundOf
-  getD-boundOf i d h = rw zero-add at (getD-map-from (bindingOf words) 0 n i d h)
+    pub getD-boundOf : getD (boundOf words n) i none ≡ bindingOf words i
+    unfolding boundOf
+    getD-boundOf = rw zero-add at (getD-map-from (bindingOf words) 0 n i none h)
 
-  pub getD-tableOf : (i : ℕ) (d : Entry) → i < n → getD (tableOf words n) i d ≡ loadedEntry words i
-  unfolding tableOf
-  getD-tableOf i d h = rw zero-add at (getD-map-from (loadedEntry words) 0 n i d h)
+    pub getD-tableOf : entry (tableOf words n) i ≡ loadedEntry words i
+    unfolding tableOf
+    getD-tableOf = rw zero-add at (getD-map-from (loadedEntry words) 0 n i (holeAt 0 0 0) h)
 
 -- a term in a row has at most as many arguments as its count says
 few-at : (t : Bool) (s c : ℕ) (xs : List ℕ) → length (arguments (cond t var (app s (take c xs)))) ≤ c
@@ -82,3 +85,42 @@ module _ (rows : List ℕ) (t : ℕ) where
   pub bookOf-more : bookOf rows (t + 1) ≡ bookOf rows t ++ nodeOf rows t ∷ []
   unfolding from
   bookOf-more = bookOf-append 1
+
+-- a term and a binding by the first word
+module _ (rows : List ℕ) (t : ℕ) where
+  pub node-var : at rows (termWords * t) ≡ 0 → nodeOf rows t ≡ var
+  unfolding nodeOf
+  node-var e = rw (eq-eqb (at rows (termWords * t)) 0 e)
+
+  pub node-app : (at rows (termWords * t) ≡ 0 → ⊥)
+      → nodeOf rows t ≡ app (at rows (termWords * t) - 1) (take (at rows (termWords * t + 1)) (drop (termWords * t + 2) rows))
+  unfolding nodeOf
+  node-app h = rw (ne-eqb (at rows (termWords * t)) 0 h)
+
+  pub binding-none : at rows t ≡ 0 → bindingOf rows t ≡ none
+  unfolding bindingOf
+  binding-none e = rw (eq-eqb (at rows t) 0 e)
+
+  pub binding-some : (at rows t ≡ 0 → ⊥) → bindingOf rows t ≡ some (at rows t - 1)
+  unfolding bindingOf
+  binding-some h = rw (ne-eqb (at rows t) 0 h)
+
+module _ {rows words : List ℕ} {n : ℕ} (good : GoodTerms rows words n) where
+  -- the arguments of an application are the words behind its count
+  module _ (t : ℕ) (l : t < n) (h : at rows (termWords * t) ≡ 0 → ⊥) where
+    pub length-arguments : length (arguments (nodeOf rows t)) ≡ at rows (termWords * t + 1)
+    unfolding arguments
+    length-arguments =
+        rw (node-app rows t h)
+        (length-take-le (at rows (termWords * t + 1)) (drop (termWords * t + 2) rows)
+        (rw length-drop (omega (arith, good .few-arguments t l, good .rows-fit))))
+
+    pub getD-arguments : (i : ℕ) → i < at rows (termWords * t + 1)
+        → getD (arguments (nodeOf rows t)) i 0 ≡ at rows (termWords * t + 2 + i)
+    unfolding arguments
+    getD-arguments i k = rw (node-app rows t h, getD-take, getD-drop)
+
+  -- the rules of terms as facts
+  pub good-formed : Formed (bookOf rows n) (boundOf words n)
+  good-formed =
+      formed-facts (bookOf rows n) (boundOf words n) (rw (length-boundOf words n, length-bookOf rows n)) (good .rules)

@@ -46,12 +46,12 @@ module _ (rows words : List ℕ) (n : ℕ) where
       let b : Book = bookOf rows n in
       let β : Bindings = boundOf words n in
       let test : ℕ → Bool = λ t. nodeOk b t (getD b t var) && bindingOk b (getD b t var) (getD β t none) in (
-        λ h t l. rw (getD-bookOf rows n t var l, getD-boundOf words n t none l) at
+        λ h t l. rw (getD-bookOf rows n t l, getD-boundOf words n t l) at
             (and₂ (nodeOk b t (getD b t var)) (bindingOk b (getD b t var) (getD β t none)) .0
             (all-below test (length b) h t (rw (length-bookOf rows n) l))),
         λ h. below-all test (length b) (λ t l.
             let k : t < n = rw (length-bookOf rows n) at l in
-            rw (getD-bookOf rows n t var k, getD-boundOf words n t none k)
+            rw (getD-bookOf rows n t k, getD-boundOf words n t k)
             (and₂ (nodeOk b t (nodeOf rows t)) (bindingOk b (nodeOf rows t) (bindingOf words t)) .1 (h t k))),
       )
 

@@ -3,14 +3,15 @@
 use mathlib.Core.List.{List, map}
 use mathlib.Core.Bool.{cond}
 use mathlib.Core.Option.{Option, none, some}
-use Prim.Native.Nat.{ℕ, _+_, _*_, _-_}
-use lib.ListN.{getD, take, drop}
-use lib.Dec.{eqb}
+use Prim.Native.Nat.{ℕ, _+_, _*_, _-_, _≤_, _<_}
+use lib.ListN.{length, getD, take, drop}
+use lib.Dec.{T, eqb}
+use Rattle.model.specs.Limits.{maxArity}
 use Rattle.model.specs.Lists.{from}
 use Rattle.model.specs.Term.{Node, var, app, Book, Bindings}
 use Rattle.model.specs.Table.{Kind, hole, common, Entry, Table}
 use Rattle.model.specs.Step.{State}
-use Rattle.model.specs.Area.{termWords, entryRowWords}
+use Rattle.model.specs.Area.{termWords, entryRowWords, termsOk}
 
 -- The word at place i; 0 past the end.
 abbrev pub at : List ℕ → ℕ → ℕ
@@ -30,6 +31,13 @@ bindingOf words t = cond (eqb (at words t) 0) none (some (at words t - 1))
 
 unfoldable pub boundOf : List ℕ → ℕ → Bindings
 boundOf words n = map (bindingOf words) (from 0 n)
+
+-- The first n rows and words hold a book that obeys the rules of terms, with variables bound to terms.
+pub record GoodTerms (rows words : List ℕ) (n : ℕ) : Type 0 where
+  pub rows-fit : termWords * n ≤ length rows
+  pub words-fit : n ≤ length words
+  pub few-arguments : (t : ℕ) → t < n → at rows (termWords * t + 1) ≤ maxArity
+  pub rules : T (termsOk (bookOf rows n) (boundOf words n))
 
 -- The kind from word i on, the entry in row i, and the table in the first m rows.
 unfoldable pub kindOf : List ℕ → ℕ → Kind

@@ -1,0 +1,1 @@
+// The tests of loaded rows that look at words alone (specs/RowTests.antt).

@@ -38,14 +38,24 @@ readable rows words n t m good l h =
     formed : Formed (bookOf rows n) (boundOf words n)
     formed = good-formed good
 
+-- the words behind the count of an application, as many as it says: a part of the rows, from a start to an end
+abbrev pub argumentsAt : List ℕ → ℕ → List ℕ
+argumentsAt rows t =
+    take (termWords * t + 2 + at rows (termWords * t + 1) - (termWords * t + 2)) (drop (termWords * t + 2) rows)
+
+-- are its arguments
+pub node-arguments : (rows : List ℕ) (t : ℕ) → (at rows (termWords * t) ≡ 0 → ⊥)
+    → nodeOf rows t ≡ app (at rows (termWords * t) - 1) (argumentsAt rows t)
+node-arguments rows t h =
+    let e : termWords * t + 2 + at rows (termWords * t + 1) - (termWords * t + 2) ≡ at rows (termWords * t + 1) = omega arith in
+    rw e (node-app rows t h)
+
 module _ (rows words : List ℕ) (t m : ℕ) (r : Readable rows words t m) where
   -- the term that a variable is bound to, and the arguments of an application, are below m
   pub bound-below : at rows (termWords * t) ≡ 0 → (at words t ≡ 0 → ⊥) → at words t - 1 < m
   unfolding partsOf
   bound-below p q = (rw (node-var rows t p, binding-some words t q) at (r .parts-below)) 0 (suc-le-suc zero-le)
 
-  pub arguments-below : (at rows (termWords * t) ≡ 0 → ⊥) → (j : ℕ)
-      → j < length (take (at rows (termWords * t + 1)) (drop (termWords * t + 2) rows))
-      → getD (take (at rows (termWords * t + 1)) (drop (termWords * t + 2) rows)) j 0 < m
+  pub arguments-below : (at rows (termWords * t) ≡ 0 → ⊥) → (j : ℕ) → j < length (argumentsAt rows t) → at (argumentsAt rows t) j < m
   unfolding partsOf
-  arguments-below h = rw (node-app rows t h) at (r .parts-below)
+  arguments-below h = rw (node-arguments rows t h) at (r .parts-below)

@@ -1,0 +1,53 @@
+// The name of every term: the lowest term with its value. Terms get classes first, along a list in which all that a value is
+// made of comes first: numbers that are equal exactly where the values are (specs/Classes.antt).
+
+ghost use mathlib.Core.Path.{_≡_};
+ghost use mathlib.Core.List.{_++_, map};
+ghost use Prim.Native.Nat.{ℕ, _+_, _<_, _≤_};
+ghost use lib.ListN.{length, drop};
+ghost use Rattle.model.specs.Lists.{from};
+ghost use Rattle.model.specs.Term.{name};
+ghost use Rattle.layout.specs.Rows.{at, bookOf, boundOf};
+ghost use Rattle.pairs.specs.Index.{Indexed};
+ghost use Rattle.values.specs.Reading.{Listed};
+ghost use Rattle.names.specs.Trie.{symbols, Room, NodeFound};
+ghost use Rattle.names.specs.Classes.{Classable, ClassFound, Scratch, SameClasses};
+
+// The number of symbols.
+const SYMBOLS: usize = layout::MAX_SYMBOL + 1;
+
+// A term's class, and the number of pairs after it.
+pub struct Classed {
+    pub number: u32,
+    pub count: usize,
+}
+
+// The node of `symbol` over the classes of `args`, the last argument first. A pair is pushed for each argument.
+fn node_of(
+    args: &[u32],
+    classes: &[u32],
+    symbol: u32,
+    lefts: &mut [u32],
+    rights: &mut [u32],
+    heads: &mut [u32],
+    next: &mut [u32],
+    count: usize,
+) -> u32
+    requires indexed { ⌜ Indexed (now lefts) (now rights) (now heads) (now next) count ⌝ }
+    requires room { ⌜ Room (now lefts) (now rights) (now next) (count + length (now args)) ⌝ }
+    requires words { ⌜ symbols + count + length (now args) ≤ 4294967296 ⌝ }
+    requires terms { ⌜ ((j : ℕ) → j < length (now args) → at (now args) j < length (now classes)) ⌝ }
+    ensures { λ r. ⌜ NodeFound (now (lefts .entry)) (now (rights .entry)) (now (next .entry)) count (now (lefts .exit)) (now (rights .exit)) (now (heads .exit)) (now (next .exit)) symbol (now (args .entry)) (now (classes .entry)) r ⌝ }
+{
+    let mut node = symbol;
+    let mut pairs = count;
+    let mut j = args.len();
+    while 0 < j {
+        j -= 1;
+        let a = args[j] as usize;
+        let place = pairs::push(lefts, rights, heads, next, pairs, node, classes[a]);
+        node = (SYMBOLS + place) as u32;
+        pairs += 1;
+    }
+    node
+}

@@ -1,0 +1,4 @@
+pub mod Laws
+pub mod Chains
+pub mod Search
+pub mod Growth

@@ -4,7 +4,7 @@ use mathlib.Core.List.{List, [], _∷_, map}
 use Prim.Native.Nat.{ℕ, suc, _+_, _-_, _≤_, _<_}
 use native.Mathlib.Numerals.{add-one}
 use native.Mathlib.Omega.{arith}
-use lib.ListN.{length, getD, drop, length-set, length-map}
+use lib.ListN.{length, drop, length-set, length-map}
 use lib.Seq.{drop-cons, drop-length}
 use Rattle.pairs.specs.Pairs.{placeOf}
 use Rattle.pairs.specs.Index.{Indexed, Pushed}
@@ -84,62 +84,81 @@ module _ {ls rs next : List ℕ} {m : ℕ} {ls₁ rs₁ heads₁ next₁ : List 
 
 -- The walk through the classes cs of the arguments, from the last one down to the one at j: the pairs and the node after it.
 pub record Walk (ls rs next : List ℕ) (m s : ℕ) (cs : List ℕ) (ls′ rs′ heads′ next′ : List ℕ) (node k j : ℕ) : Type 0 where
+  pub room : Room ls rs next (m + length cs)
+  pub words : symbols + m + length cs ≤ 4294967296
   pub within : j ≤ length cs
   pub pairs : k + j ≡ m + length cs
   pub grown : Grown ls rs next m ls′ rs′ heads′ next′ k
   pub is-node : node ≡ trieNode (placeOf ls′ rs′ k) s (drop j cs)
   pub present : Present (placeOf ls′ rs′ k) k s (drop j cs)
 
-pub walk-none : (ls rs heads next : List ℕ) (m s : ℕ) (cs : List ℕ) (j : ℕ) → j ≡ length cs → Indexed ls rs heads next m
-    → Walk ls rs next m s cs ls rs heads next s m j
+pub walk-none : {ls rs heads next : List ℕ} (m s : ℕ) (args classes : List ℕ) → Indexed ls rs heads next m → Room ls rs next (m + length args)
+    → symbols + m + length args ≤ 4294967296 → Walk ls rs next m s (map (at classes) args) ls rs heads next s m (length args)
 unfolding trieNode Present
-walk-none ls rs heads next m s cs j e h =
+walk-none m s args classes h room words =
+    let e : length (map (at classes) args) ≡ length args = length-map args (at classes) in
+    let none : drop (length args) (map (at classes) args) ≡ [] = rw (← e, drop-length (map (at classes) args)) in
     record {
+      room = rw e room;
+      words = omega arith;
       within = omega arith;
       pairs = rw e;
       grown = grown-none h;
-      is-node = rw (e, drop-length cs);
-      present = rw (e, drop-length cs) tt;
+      is-node = rw none;
+      present = rw none tt;
     }
 
 module _ {ls rs next : List ℕ} {m s : ℕ} {cs ls₁ rs₁ heads₁ next₁ : List ℕ} {node k j : ℕ} (w : Walk ls rs next m s cs ls₁ rs₁ heads₁ next₁ node k j) where
   -- there is room for the next pair
-  pub walk-room : Room ls rs next (m + length cs) → 0 < j → (k < length ls₁) × (k < length rs₁) × (k < length next₁)
-  walk-room room l = (
-    omega (arith, w .pairs, room .lefts, w .grown .left-size),
-    omega (arith, w .pairs, room .rights, w .grown .right-size),
-    omega (arith, w .pairs, room .links, w .grown .next-size),
+  pub walk-room : 0 < j → (k < length ls₁) × (k < length rs₁) × (k < length next₁)
+  walk-room l = (
+    omega (arith, w .pairs, w .room .lefts, w .grown .left-size),
+    omega (arith, w .pairs, w .room .rights, w .grown .right-size),
+    omega (arith, w .pairs, w .room .links, w .grown .next-size),
   )
 
-  -- one argument more
-  pub walk-more : Room ls rs next (m + length cs) → 0 < j → {ls₂ rs₂ heads₂ next₂ : List ℕ} {c r : ℕ} → c ≡ at cs (j - 1)
-      → Pushed ls₁ rs₁ ls₂ rs₂ heads₂ next₂ k node c r → length next₂ ≡ length next₁
-      → Walk ls rs next m s cs ls₂ rs₂ heads₂ next₂ (symbols + r) (k + 1) (j - 1)
-  unfolding trieNode Present
-  walk-more room l {ls₂} {rs₂} {heads₂} {next₂} {c} {r} e p q =
-      record {
-        within = omega (arith, w .within);
-        pairs = omega (arith, w .pairs);
-        grown = grown-more (w .grown) p q;
-        is-node = rw (front, node-same, here);
-        present = rw front (rw (node-same, here) (omega (arith, place-le ls₁ rs₁ k node c, p .place)), still);
-      }
-    where
-      ds : List ℕ
-      ds = drop j cs
+  module _ (l : 0 < j) {ls₂ rs₂ heads₂ next₂ : List ℕ} {c r : ℕ} (p : Pushed ls₁ rs₁ ls₂ rs₂ heads₂ next₂ k node c r) where
+    -- its place is at most the number of pairs, so the node is a word
+    place-within : r ≤ k
+    place-within = omega (arith, place-le ls₁ rs₁ k node c, p .place)
 
-      -- the classes from j - 1 on
-      front : drop (j - 1) cs ≡ c ∷ drop j cs
-      front = let h : suc (j - 1) ≡ j = omega arith in drop-cons cs (j - 1) 0 (omega (arith, w .within)) ∙ rw (h, e)
+    pub walk-word : symbols + r < 4294967296
+    walk-word = omega (arith, place-within, w .pairs, w .words)
 
-      node-same : trieNode (placeOf ls₂ rs₂ (k + 1)) s (drop j cs) ≡ node
-      node-same =
-          node-stays (placeOf ls₁ rs₁ k) k (placeOf ls₂ rs₂ (k + 1)) (k + 1) (omega arith) (pushed-stays (w .grown) p) s (drop j cs) (w .present)
-          ∙ sym (w .is-node)
+    -- the node and the pairs on the way before it stay, and its place is the answer
+    node-same : trieNode (placeOf ls₂ rs₂ (k + 1)) s (drop j cs) ≡ node
+    node-same =
+        node-stays (placeOf ls₁ rs₁ k) k (placeOf ls₂ rs₂ (k + 1)) (k + 1) (omega arith) (pushed-stays (w .grown) p) s (drop j cs) (w .present)
+        ∙ sym (w .is-node)
 
-      here : placeOf ls₂ rs₂ (k + 1) node c ≡ r
-      here = let g : _ = walk-room room l in pushed-place (w .grown) p (g .0) (g .1)
+    present-same : Present (placeOf ls₂ rs₂ (k + 1)) (k + 1) s (drop j cs)
+    present-same =
+        present-stays (placeOf ls₁ rs₁ k) k (placeOf ls₂ rs₂ (k + 1)) (k + 1) (omega arith) (pushed-stays (w .grown) p) s (drop j cs) (w .present)
 
-      still : Present (placeOf ls₂ rs₂ (k + 1)) (k + 1) s (drop j cs)
-      still =
-          present-stays (placeOf ls₁ rs₁ k) k (placeOf ls₂ rs₂ (k + 1)) (k + 1) (omega arith) (pushed-stays (w .grown) p) s (drop j cs) (w .present)
+    place-here : placeOf ls₂ rs₂ (k + 1) node c ≡ r
+    place-here = pushed-place (w .grown) p (walk-room l .0) (walk-room l .1)
+
+    -- one argument more
+    pub walk-more : c ≡ at cs (j - 1) → length next₂ ≡ length next₁ → Walk ls rs next m s cs ls₂ rs₂ heads₂ next₂ (symbols + r) (k + 1) (j - 1)
+    unfolding trieNode Present
+    walk-more e q =
+        record {
+          room = w .room;
+          words = w .words;
+          within = omega (arith, w .within);
+          pairs = omega (arith, w .pairs);
+          grown = grown-more (w .grown) p q;
+          is-node = rw (front, node-same, place-here);
+          present = rw front (rw (node-same, place-here) (omega (arith, place-within)), present-same);
+        }
+      where
+        front : drop (j - 1) cs ≡ c ∷ drop j cs
+        front = let h : suc (j - 1) ≡ j = omega arith in drop-cons cs (j - 1) 0 (omega (arith, w .within)) ∙ rw (h, e)
+
+-- the end of the walk
+pub walk-all : {ls rs next : List ℕ} {m s : ℕ} {ls₁ rs₁ heads₁ next₁ : List ℕ} {node k j : ℕ} (args classes : List ℕ)
+    → Walk ls rs next m s (map (at classes) args) ls₁ rs₁ heads₁ next₁ node k j → j ≤ 0 → NodeFound ls rs next m ls₁ rs₁ heads₁ next₁ s args classes node
+walk-all {ls} {rs} {next} {m} {s} {ls₁} {rs₁} {heads₁} {next₁} {node} {k} {j} args classes w l =
+    let z : j ≡ 0 = omega arith in
+    let e : k ≡ m + length args = omega (arith, w .pairs, length-map args (at classes)) in
+    record { grown = rw e at (w .grown); is-node = rw (e, z) at (w .is-node); present = rw (e, z) at (w .present) }

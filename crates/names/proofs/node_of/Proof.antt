@@ -1,67 +1,83 @@
+-- `names::node_of` meets its contract: the loop walks through the classes of the arguments, from the last one down to the one at
+-- `j`, and the measure is `j`. Assumes nothing.
+use mathlib.Core.Path.{sym, _∙_}
+use mathlib.Core.List.{map}
+use Prim.Native.Nat.{_-_, _≤_}
+use native.Mathlib.Omega.{arith}
+use lib.ListN.{length}
+use denote.Ref.{now}
+use Rattle.theory.proofs.Table.Search.{getD-map-lt}
+use Rattle.layout.specs.Rows.{at}
+use Rattle.names.proofs.Trie.{Walk, walk-none, walk-room, walk-word, walk-more, walk-all}
 use Rattle.names.proofs.node_of.Statement.{statement}
 use Rattle.names.proofs.node_of.Tie as tie
 
 abbrev Inv-loop : tie.InvT-loop
-Inv-loop args classes symbol lefts₀ rights₀ heads₀ next₀ count node₀ pairs₀ j₀ lefts rights heads next node pairs j =
-    ?
+Inv-loop args classes symbol lefts₀ rights₀ heads₀ next₀ count node₀ pairs₀ j₀ lefts rights heads next node pairs j = Walk lefts₀ rights₀ next₀ count symbol (map (at classes) args) lefts rights heads next node pairs j × (j ≤ length args)
 
 abbrev μ-loop : tie.MeasureT-loop
-μ-loop args classes symbol lefts₀ rights₀ heads₀ next₀ count node₀ pairs₀ j₀ lefts rights heads next node pairs j =
-    ?
+μ-loop args classes symbol lefts₀ rights₀ heads₀ next₀ count node₀ pairs₀ j₀ lefts rights heads next node pairs j = j
 
 loop-holds : tie.Need-loop-holds Inv-loop μ-loop
-loop-holds c = ?
+loop-holds c = let pre = c .before .before .before .before .before .before .pre in (walk-none _ _ (now (c .before .before .before .before .before .before .args .args)) (now (c .before .before .before .before .before .before .args .classes)) (pre .0) (pre .1 .0) (pre .1 .1 .0), omega arith)
 
 sub-j : tie.Need-sub-j Inv-loop μ-loop
-sub-j c = ?
+sub-j c = omega arith
 
 mul-a : tie.Need-mul-a Inv-loop μ-loop
-mul-a c = ?
+mul-a c = omega arith
 
 shared-slice-read-a : tie.Need-shared-slice-read-a Inv-loop μ-loop
-shared-slice-read-a c = ?
+shared-slice-read-a c = omega arith
 
 cast-a : tie.Need-cast-a Inv-loop μ-loop
-cast-a c = ?
+cast-a c = omega (arith, c .shared-slice-known3 .given (c .before .before .loop .j - 1))
 
 mul-push : tie.Need-mul-push Inv-loop μ-loop
-mul-push c = ?
+mul-push c = omega (arith, c .before .before .before .before .shared-slice-known3 .given (c .before .before .before .before .before .before .loop .j - 1))
 
 shared-slice-read-push : tie.Need-shared-slice-read-push Inv-loop μ-loop
-shared-slice-read-push c = ?
+shared-slice-read-push c = c .before .before .before .before .before .before .before .before .before .before .before .before .before .before .pre .1 .1 .1 (c .before .before .before .before .before .before .before .loop .j - 1) (omega (arith, c .before .before .before .before .before .before .before .loop .inv .1, c .before .before .before .before .before .before .loop-test .taken))
 
 push-requires : tie.Need-push-requires Inv-loop μ-loop
-push-requires c κs = ?
+push-requires c κs = (c .before .before .before .before .before .before .before .loop .inv .0 .grown .indexed, walk-room (c .before .before .before .before .before .before .before .loop .inv .0) (c .before .before .before .before .before .before .loop-test .taken))
 
 add-node : tie.Need-add-node Inv-loop μ-loop
-add-node c = ?
+add-node c = omega (arith, walk-word (c .before .before .before .before .before .before .before .before .before .before .before .before .before .before .before .before .loop .inv .0) (c .before .before .before .before .before .before .before .before .before .before .before .before .before .before .before .loop-test .taken) (c .before .before .before .before .before .before .before .before .push .ensures))
 
 cast-node : tie.Need-cast-node Inv-loop μ-loop
-cast-node c = ?
+cast-node c = omega (arith, walk-word (c .before .before .before .before .before .before .before .before .before .before .before .before .before .before .before .before .loop .inv .0) (c .before .before .before .before .before .before .before .before .before .before .before .before .before .before .before .loop-test .taken) (c .before .before .before .before .before .before .before .before .push .ensures))
 
 add-pairs : tie.Need-add-pairs Inv-loop μ-loop
-add-pairs c = ?
+add-pairs c = omega (arith, walk-room (c .before .before .before .before .before .before .before .before .before .before .before .before .before .before .before .before .loop .inv .0) (c .before .before .before .before .before .before .before .before .before .before .before .before .before .before .before .loop-test .taken) .0)
 
 loop-less : tie.Need-loop-less Inv-loop μ-loop
-loop-less c = ?
+loop-less c = omega (arith, c .before .before .before .before .before .before .before .before .before .before .before .before .before .before .before .loop-test .taken)
 
 loop-again : tie.Need-loop-again Inv-loop μ-loop
-loop-again c = ?
+loop-again c =
+    let args = c .before .before .before .before .before .before .before .before .before .before .before .before .before .before .before .before .before .before .before .before .before .before .before .args in
+    let j = c .before .before .before .before .before .before .before .before .before .before .before .before .before .before .before .before .loop .j in
+    let h = c .before .before .before .before .before .before .before .before .before .before .before .before .before .before .before .before .loop .inv in
+    let l = c .before .before .before .before .before .before .before .before .before .before .before .before .before .before .before .loop-test .taken in (
+      walk-more (h .0) l (c .before .before .before .before .before .before .before .before .push .ensures) (sym (getD-map-lt (at (now (args .classes))) (now (args .args)) (j - 1) 0 0 (omega (arith, h .1)))) (c .before .before .before .before .before .before .before .before .push .kept .1 .1 .1 .0),
+      omega (arith, h .1),
+    )
 
 same-length : tie.Need-same-length Inv-loop μ-loop
-same-length c = ?
+same-length c = c .before .loop .inv .0 .grown .left-size
 
 same-length-2 : tie.Need-same-length-2 Inv-loop μ-loop
-same-length-2 c = ?
+same-length-2 c = c .before .loop .inv .0 .grown .right-size
 
 same-length-3 : tie.Need-same-length-3 Inv-loop μ-loop
-same-length-3 c = ?
+same-length-3 c = omega (arith, c .before .loop .inv .0 .grown .indexed .all-heads, c .before .before .before .before .before .before .before .before .pre .0 .all-heads)
 
 same-length-4 : tie.Need-same-length-4 Inv-loop μ-loop
-same-length-4 c = ?
+same-length-4 c = c .before .loop .inv .0 .grown .next-size
 
 returns : tie.Need-returns Inv-loop μ-loop
-returns c = ?
+returns c = walk-all _ _ (c .before .loop .inv .0) (c .loop-test .left)
 
 pub node-of-spec : {M : Type 1} → statement M
 node-of-spec =

@@ -1,1 +1,2 @@
 pub mod Trie
+pub mod ClassStep

@@ -51,3 +51,41 @@ fn node_of(
     }
     node
 }
+
+// The class of term `t`, where `classes` has the classes of the terms one step down.
+fn class_of(
+    rows: &[u32],
+    bindings: &[u32],
+    n: u32,
+    t: u32,
+    classes: &[u32],
+    lefts: &mut [u32],
+    rights: &mut [u32],
+    heads: &mut [u32],
+    next: &mut [u32],
+    count: usize,
+) -> Classed
+    requires { ⌜ Classable (now rows) (now bindings) (now classes) (now lefts) (now rights) (now heads) (now next) n t count ⌝ }
+    ensures { λ r. ⌜ ClassFound (now (rows .entry)) (now (bindings .entry)) (now (classes .entry)) (now (lefts .entry)) (now (rights .entry)) (now (next .entry)) n t count (now (lefts .exit)) (now (rights .exit)) (now (heads .exit)) (now (next .exit)) r ⌝ }
+{
+    let i = t as usize;
+    let row = layout::TERM_WORDS * i;
+    let symbol = rows[row];
+    if symbol != 0 {
+        let first = row + 2;
+        let arity = rows[row + 1] as usize;
+        let end = first + arity;
+        let args = &rows[first..end];
+        let node = node_of(args, classes, symbol - 1, lefts, rights, heads, next, count);
+        return Classed {
+            number: n + node,
+            count: count + arity,
+        };
+    }
+    let bound = bindings[i];
+    if bound == 0 {
+        return Classed { number: t, count };
+    }
+    let number = classes[(bound - 1) as usize];
+    Classed { number, count }
+}

@@ -1,2 +1,3 @@
 pub mod Trie
 pub mod ClassStep
+pub mod ClassOf

@@ -4,6 +4,8 @@ use mathlib.Core.List.{List, map}
 use mathlib.Core.Option.{Option, none, some}
 use Prim.Native.Nat.{ℕ, _+_, _*_, _≤_, _<_}
 use lib.ListN.{length}
+use lib.Dec.{eqb}
+use Rattle.model.specs.Lists.{first, from}
 use Rattle.model.specs.Limits.{maxArity, maxSymbol}
 use Rattle.model.specs.Term.{Node, var, app, symbol, arguments, Book, Bindings, val}
 use Rattle.layout.specs.Rows.{at, nodeOf, bindingOf}
@@ -53,3 +55,7 @@ pub record Scratch (ls rs heads next classes : List ℕ) (n : ℕ) : Type 0 wher
 pub record SameClasses (b : Book) (β : Bindings) (classes : List ℕ) (n : ℕ) : Type 0 where
   pub same-value : (t u : ℕ) → t < n → u < n → at classes t ≡ at classes u → val b β t ≡ val b β u
   pub same-class : (t u : ℕ) → t < n → u < n → val b β t ≡ val b β u → at classes t ≡ at classes u
+
+-- The lowest of n terms with the class of t.
+unfoldable pub lowestSame : List ℕ → ℕ → ℕ → ℕ
+lowestSame classes n t = first (λ u. eqb (at classes u) (at classes t)) (from 0 n)

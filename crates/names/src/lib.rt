@@ -11,7 +11,7 @@ ghost use Rattle.layout.specs.Rows.{at, bookOf, boundOf};
 ghost use Rattle.pairs.specs.Index.{Indexed};
 ghost use Rattle.values.specs.Reading.{Listed};
 ghost use Rattle.names.specs.Trie.{symbols, Room, NodeFound};
-ghost use Rattle.names.specs.Classes.{Classable, ClassFound, Scratch, SameClasses};
+ghost use Rattle.names.specs.Classes.{Classable, ClassFound, Scratch, SameClasses, lowestSame};
 
 // The number of symbols.
 const SYMBOLS: usize = layout::MAX_SYMBOL + 1;
@@ -88,4 +88,78 @@ fn class_of(
     }
     let number = classes[(bound - 1) as usize];
     Classed { number, count }
+}
+
+// The class of each of the `n` terms, into `classes`. The other slices are scratch.
+fn classify(
+    rows: &[u32],
+    bindings: &[u32],
+    n: u32,
+    list: &[u32],
+    lefts: &mut [u32],
+    rights: &mut [u32],
+    heads: &mut [u32],
+    next: &mut [u32],
+    classes: &mut [u32],
+)
+    requires listed { ⌜ Listed (now rows) (now bindings) (now list) n ⌝ }
+    requires scratch { ⌜ Scratch (now lefts) (now rights) (now heads) (now next) (now classes) n ⌝ }
+    ensures { λ _. ⌜ SameClasses (bookOf (now (rows .entry)) n) (boundOf (now (bindings .entry)) n) (now (classes .exit)) n ⌝ }
+{
+    pairs::clear(heads);
+    let mut count = 0;
+    let mut k = 0;
+    while k < n as usize {
+        let t = list[k];
+        let found = class_of(rows, bindings, n, t, classes, lefts, rights, heads, next, count);
+        classes[t as usize] = found.number;
+        count = found.count;
+        k += 1;
+    }
+}
+
+// For each of the `n` terms the lowest with its class, into `names`. The other slices are scratch.
+fn lowest_of_class(
+    classes: &[u32],
+    n: u32,
+    lefts: &mut [u32],
+    rights: &mut [u32],
+    heads: &mut [u32],
+    next: &mut [u32],
+    names: &mut [u32],
+)
+    requires scratch { ⌜ Scratch (now lefts) (now rights) (now heads) (now next) (now classes) n ⌝ }
+    requires names { ⌜ n ≤ length (now names) ⌝ }
+    ensures { λ _. ⌜ now (names .exit) ≡ map (lowestSame (now (classes .entry)) n) (from 0 n) ++ drop n (now (names .entry)) ⌝ }
+{
+    pairs::clear(heads);
+    let mut t = 0;
+    while t < n as usize {
+        let place = pairs::push(lefts, rights, heads, next, t, classes[t], 0);
+        names[t] = place as u32;
+        t += 1;
+    }
+}
+
+// The name of each of the `n` terms, the lowest term with its value, into `names`. `lefts`, `rights`, `heads`, `next` and
+// `classes` are scratch.
+pub fn names(
+    rows: &[u32],
+    bindings: &[u32],
+    n: u32,
+    list: &[u32],
+    lefts: &mut [u32],
+    rights: &mut [u32],
+    heads: &mut [u32],
+    next: &mut [u32],
+    classes: &mut [u32],
+    names: &mut [u32],
+)
+    requires listed { ⌜ Listed (now rows) (now bindings) (now list) n ⌝ }
+    requires scratch { ⌜ Scratch (now lefts) (now rights) (now heads) (now next) (now classes) n ⌝ }
+    requires names { ⌜ n ≤ length (now names) ⌝ }
+    ensures { λ _. ⌜ now (names .exit) ≡ map (name (bookOf (now (rows .entry)) n) (boundOf (now (bindings .entry)) n)) (from 0 n) ++ drop n (now (names .entry)) ⌝ }
+{
+    classify(rows, bindings, n, list, lefts, rights, heads, next, classes);
+    lowest_of_class(classes, n, lefts, rights, heads, next, names);
 }

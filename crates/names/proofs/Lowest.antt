@@ -84,7 +84,7 @@ lowest-names b β classes n size s =
     alike : (t : ℕ) → t < n → (u : ℕ) → u < n
         → eqb (at classes (getD (from 0 n) u 0)) (at classes t) ≡ eqTree (val b β (getD (from 0 (length b)) u 0)) (val b β t)
     alike t l u k =
-        rw (size, getD-from 0 n u 0 k, zero-add)
+        rw (getD-from 0 n u 0 k, getD-from 0 (length b) u 0 (rw size k), zero-add)
         (same-test (eqb (at classes u) (at classes t)) (eqTree (val b β u) (val b β t))
         (λ h. rw (s .same-value u t k l (eqb→eq (at classes u) (at classes t) h)) (eqTree-refl (val b β t)))
         (λ h. rw (s .same-class u t k l (eqTree-eq (val b β u) (val b β t) h)) (eqb-refl (at classes t))))
@@ -158,8 +158,8 @@ module _ {classes : List ℕ} {n : ℕ} {names₀ ls₀ rs₀ next₀ : List ℕ
               name-size = length-set names t r ∙ h .name-size;
               behind = drop-set-lt n names t r l ∙ h .behind;
               indexed = rw add-one (p .indexed);
-              pairs = below-more t (λ i q. kept i q) last;
-              named = below-more t (λ i q. getD-set-other names t i r 0 (λ s. omega arith) ∙ h .named i q)
+              pairs = below-more _ t (λ i q. kept i q) last;
+              named = below-more _ t (λ i q. getD-set-other names t i r 0 (λ s. omega arith) ∙ h .named i q)
                   (getD-set-same names t r 0 next-name ∙ p .place ∙ place-lowest classes n t l ls rs (h .pairs));
             }
           where

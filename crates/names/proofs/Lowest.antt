@@ -18,7 +18,8 @@ use Rattle.theory.proofs.Lists.Laws.{first-least, first-alike, length-from, get
 use Rattle.theory.proofs.Table.Search.{lt-or-le}
 use Rattle.theory.proofs.Values.Equations.{eqTree-eq, eqTree-refl}
 use Rattle.theory.proofs.Values.Ends.{lowest, lowest-holds}
-use Rattle.layout.specs.Rows.{at}
+use Rattle.layout.specs.Rows.{at, bookOf, boundOf}
+use Rattle.layout.proofs.Rows.{length-bookOf}
 use Rattle.pairs.specs.Pairs.{placeOf}
 use Rattle.pairs.specs.Index.{noHeads, Indexed, Pushed}
 use Rattle.pairs.proofs.Laws.{Holds, place-le, place-holds, place-least, kept-holds, kept-set, holds-set}
@@ -88,6 +89,29 @@ lowest-names b β classes n size s =
         (same-test (eqb (at classes u) (at classes t)) (eqTree (val b β u) (val b β t))
         (λ h. rw (s .same-value u t k l (eqb→eq (at classes u) (at classes t) h)) (eqTree-refl (val b β t)))
         (λ h. rw (s .same-class u t k l (eqTree-eq (val b β u) (val b β t) h)) (eqb-refl (at classes t))))
+
+pub names-found : (rows bindings : List ℕ) (n : ℕ) (classes names rest : List ℕ) → SameClasses (bookOf rows n) (boundOf bindings n) classes n
+    → names ≡ map (lowestSame classes n) (from 0 n) ++ rest → names ≡ map (name (bookOf rows n) (boundOf bindings n)) (from 0 n) ++ rest
+names-found rows bindings n classes names rest s e =
+    rw (lowest-names (bookOf rows n) (boundOf bindings n) classes n (length-bookOf rows n) s) at e
+
+-- slices of the same lengths are long enough too
+pub scratch-kept : {ls rs heads next classes : List ℕ} {n : ℕ} → Scratch ls rs heads next classes n → {ls′ rs′ heads′ next′ classes′ : List ℕ}
+    → length ls′ ≡ length ls → length rs′ ≡ length rs → length heads′ ≡ length heads → length next′ ≡ length next → length classes′ ≡ length classes
+    → Scratch ls′ rs′ heads′ next′ classes′ n
+scratch-kept s l r h x k =
+    record {
+      room =
+          record {
+            lefts = omega (arith, s .room .lefts);
+            rights = omega (arith, s .room .rights);
+            links = omega (arith, s .room .links);
+          };
+      left-words = omega (arith, s .left-words);
+      all-heads = h ∙ s .all-heads;
+      classes-fit = omega (arith, s .classes-fit);
+      words-fit = s .words-fit;
+    }
 
 -- After t terms: the pairs of their classes, and their names.
 pub record Numbering (classes : List ℕ) (n : ℕ) (names₀ ls₀ rs₀ next₀ names ls rs heads next : List ℕ) (t : ℕ) : Type 0 where

@@ -1,15 +1,15 @@
 -- Laws of what rows of words hold: the terms and the bindings, each from its words. Assumes nothing.
-use mathlib.Core.Path.{_≡_, refl, ap, _∙_}
+use mathlib.Core.Path.{_≡_, ap, _∙_}
 use mathlib.Core.List.{List, map}
 use mathlib.Core.Option.{none, some}
-use Prim.Native.Nat.{ℕ, zero, suc, _+_, _*_, _-_, _≤_, _<_}
+use Prim.Native.Nat.{ℕ, zero, suc, _+_, _*_, _-_, _<_}
 use native.Mathlib.Nat.{le-of-suc-le-suc, not-suc-le-zero, add-zero, zero-add}
 use native.Mathlib.Omega.{arith}
 use lib.ListN.{length, getD, take, drop, length-map, length-drop}
 use lib.Seq.{length-take-le, getD-take, getD-drop}
 use borrow.Author.Tests.{eq-eqb, ne-eqb}
 use Rattle.model.specs.Lists.{from}
-use Rattle.model.specs.Term.{Node, var, app, arguments}
+use Rattle.model.specs.Term.{var, app, arguments}
 use Rattle.model.specs.Area.{termWords}
 use Rattle.theory.proofs.Lists.Laws.{length-from}
 use Rattle.theory.proofs.Soundness.Facts.{Formed}
@@ -32,17 +32,18 @@ module _ (rows : List ℕ) (n : ℕ) where
   unfolding bookOf
   length-bookOf = length-map-from (nodeOf rows) 0 n
 
-  pub getD-bookOf : (t : ℕ) → t < n → getD (bookOf rows n) t var ≡ nodeOf rows t
-  unfolding bookOf
-  getD-bookOf t l = getD-map-from (nodeOf rows) 0 n t var l ∙ rw zero-add
-
   pub length-boundOf : length (boundOf rows n) ≡ n
   unfolding boundOf
   length-boundOf = length-map-from (bindingOf rows) 0 n
 
-  pub getD-boundOf : (t : ℕ) → t < n → getD (boundOf rows n) t none ≡ bindingOf rows t
-  unfolding boundOf
-  getD-boundOf t l = getD-map-from (bindingOf rows) 0 n t none l ∙ rw zero-add
+  module _ (t : ℕ) (l : t < n) where
+    pub getD-bookOf : getD (bookOf rows n) t var ≡ nodeOf rows t
+    unfolding bookOf
+    getD-bookOf = getD-map-from (nodeOf rows) 0 n t var l ∙ rw zero-add
+
+    pub getD-boundOf : getD (boundOf rows n) t none ≡ bindingOf rows t
+    unfolding boundOf
+    getD-boundOf = getD-map-from (bindingOf rows) 0 n t none l ∙ rw zero-add
 
 -- a term and a binding by the first word
 module _ (rows : List ℕ) (t : ℕ) where

@@ -5,16 +5,15 @@ use Prim.Native.Nat.{ℕ, _+_, _*_, _-_, _≤_, _<_}
 use native.Mathlib.Omega.{arith}
 use lib.ListN.{length, drop, length-take, length-drop}
 use Rattle.model.specs.Limits.{maxArity, maxSymbol}
-use Rattle.model.specs.Term.{Node, var, app, symbol, arguments}
+use Rattle.model.specs.Term.{symbol, arguments}
 use Rattle.model.specs.Area.{termWords}
 use Rattle.layout.specs.Rows.{at, nodeOf, bindingOf}
 use Rattle.layout.proofs.Rows.{node-var, binding-none, binding-some}
 use Rattle.pairs.specs.Pairs.{placeOf}
 use Rattle.pairs.specs.Index.{Indexed}
 use Rattle.values.proofs.Reading.{argumentsAt, node-arguments, arguments-below}
-use Rattle.names.specs.Trie.{symbols, Room, Grown, NodeFound}
+use Rattle.names.specs.Trie.{symbols, Room, NodeFound}
 use Rattle.names.specs.Classes.{classStep, StepPresent, Classable, ClassFound}
-use Rattle.names.specs.declared.Classed.{Classed}
 use Rattle.names.proofs.Trie.{node-below, grown-none}
 
 -- there is room for fewer pairs
@@ -43,8 +42,10 @@ module _ {rows words classes ls rs heads next : List ℕ} {n t m : ℕ} (a : Cla
         × ((j : ℕ) → j < length (argumentsAt rows t) → at (argumentsAt rows t) j < length classes)))
     node-asks = (
       a .indexed,
-      (room-less (a .room) _ (omega (arith, few-arguments)),
-      (omega (arith, few-arguments, a .words-fit), arguments-below rows words t (length classes) (a .readable) h)),
+      (
+        room-less (a .room) _ (omega (arith, few-arguments)),
+        (omega (arith, few-arguments, a .words-fit), arguments-below rows words t (length classes) (a .readable) h),
+      ),
     )
 
     module _ {ls′ rs′ heads′ next′ : List ℕ} {node : ℕ}
@@ -52,12 +53,14 @@ module _ {rows words classes ls rs heads next : List ℕ} {n t m : ℕ} (a : Cla
       -- the class is a word
       pub class-word : n + node < 4294967296
       class-word =
-          omega
-          (arith,
-          f .is-node,
-          node-below (placeOf ls′ rs′ (m + length (argumentsAt rows t))) (m + length (argumentsAt rows t)) (at rows (termWords * t) - 1) (map (at classes) (argumentsAt rows t))
-          (omega (arith, small)) (f .present),
-          few-arguments, a .words-fit)
+          omega (
+            arith,
+            f .is-node,
+            node-below (placeOf ls′ rs′ (m + length (argumentsAt rows t))) (m + length (argumentsAt rows t)) (at rows (termWords * t) - 1) (map (at classes) (argumentsAt rows t))
+                (omega (arith, small)) (f .present),
+            few-arguments,
+            a .words-fit,
+          )
 
       class-app-of : (k : ℕ) → k ≡ length (argumentsAt rows t)
           → ClassFound rows words classes ls rs next n t m ls′ rs′ heads′ next′ (record { number = n + node; count = m + k })

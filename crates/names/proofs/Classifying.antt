@@ -4,8 +4,8 @@ use mathlib.Core.List.{List}
 use Prim.Native.Nat.{ℕ, _+_, _*_, _≤_, _<_}
 use native.Mathlib.Omega.{arith}
 use lib.ListN.{length, set}
-use Rattle.model.specs.Limits.{maxArity, maxSymbol}
-use Rattle.model.specs.Term.{symbol, arguments, Book, Bindings, val}
+use Rattle.model.specs.Limits.{maxArity}
+use Rattle.model.specs.Term.{val}
 use Rattle.theory.proofs.Soundness.Facts.{Formed}
 use Rattle.theory.proofs.Soundness.Terms.{acyclic-facts}
 use Rattle.layout.specs.Rows.{at, nodeOf, bookOf, bindingOf, boundOf}

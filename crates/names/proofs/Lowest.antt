@@ -12,7 +12,7 @@ use lib.ListN.{length, getD, drop, set, length-set}
 use lib.Seq.{getD-set-same, getD-set-other, drop-set-lt}
 use lib.Dec.{T, eqb, eqb→eq, eqb-refl}
 use Rattle.model.specs.Limits.{maxArity}
-use Rattle.model.specs.Lists.{first, from}
+use Rattle.model.specs.Lists.{from}
 use Rattle.model.specs.Term.{Book, Bindings, eqTree, val, name}
 use Rattle.theory.proofs.Lists.Laws.{first-least, first-alike, length-from, getD-from}
 use Rattle.theory.proofs.Table.Search.{lt-or-le}

@@ -9,7 +9,6 @@ use lib.Seq.{drop-cons, drop-length}
 use Rattle.pairs.specs.Pairs.{placeOf}
 use Rattle.pairs.specs.Index.{Indexed, Pushed}
 use Rattle.pairs.proofs.Laws.{Holds, place-le, place-holds, place-old, place-new}
-use Rattle.theory.proofs.Table.Search.{getD-map-lt}
 use Rattle.layout.specs.Rows.{at}
 use Rattle.names.specs.Trie.{symbols, trieNode, Present, Room, Grown, NodeFound}
 

@@ -17,16 +17,16 @@ ghost use Rattle.names.specs.Classes.{Classable, ClassFound, Scratch, Sa
 const SYMBOLS: usize = layout::MAX_SYMBOL + 1;
 
 // A term's class, and the number of pairs after it.
-pub struct Classed {
-    pub number: u32,
-    pub count: usize,
+struct Classed {
+    number: u32,
+    count: usize,
 }
 
 // The node of `symbol` over the classes of `args`, the last argument first. A pair is pushed for each argument.
 fn node_of(
+    symbol: u32,
     args: &[u32],
     classes: &[u32],
-    symbol: u32,
     lefts: &mut [u32],
     rights: &mut [u32],
     heads: &mut [u32],
@@ -56,9 +56,9 @@ fn node_of(
 fn class_of(
     rows: &[u32],
     bindings: &[u32],
+    classes: &[u32],
     n: u32,
     t: u32,
-    classes: &[u32],
     lefts: &mut [u32],
     rights: &mut [u32],
     heads: &mut [u32],
@@ -76,7 +76,7 @@ fn class_of(
         let arity = rows[row + 1] as usize;
         let end = first + arity;
         let args = &rows[first..end];
-        let node = node_of(args, classes, symbol - 1, lefts, rights, heads, next, count);
+        let node = node_of(symbol - 1, args, classes, lefts, rights, heads, next, count);
         return Classed {
             number: n + node,
             count: count + arity,
@@ -94,16 +94,16 @@ fn class_of(
 fn classify(
     rows: &[u32],
     bindings: &[u32],
-    n: u32,
     list: &[u32],
+    n: u32,
     lefts: &mut [u32],
     rights: &mut [u32],
     heads: &mut [u32],
     next: &mut [u32],
     classes: &mut [u32],
 )
-    requires listed { ⌜ Listed (now rows) (now bindings) (now list) n ⌝ }
     requires scratch { ⌜ Scratch (now lefts) (now rights) (now heads) (now next) (now classes) n ⌝ }
+    requires listed { ⌜ Listed (now rows) (now bindings) (now list) n ⌝ }
     ensures { λ _. ⌜ SameClasses (bookOf (now (rows .entry)) n) (boundOf (now (bindings .entry)) n) (now (classes .exit)) n ⌝ }
 {
     pairs::clear(heads);
@@ -111,7 +111,18 @@ fn classify(
     let mut k = 0;
     while k < n as usize {
         let t = list[k];
-        let found = class_of(rows, bindings, n, t, classes, lefts, rights, heads, next, count);
+        let found = class_of(
+            rows,
+            bindings,
+            classes,
+            n,
+            t,
+            lefts,
+            rights,
+            heads,
+            next,
+            count,
+        );
         classes[t as usize] = found.number;
         count = found.count;
         k += 1;
@@ -120,12 +131,12 @@ fn classify(
 
 // For each of the `n` terms the lowest with its class, into `names`. The other slices are scratch.
 fn lowest_of_class(
-    classes: &[u32],
-    n: u32,
     lefts: &mut [u32],
     rights: &mut [u32],
     heads: &mut [u32],
     next: &mut [u32],
+    classes: &[u32],
+    n: u32,
     names: &mut [u32],
 )
     requires scratch { ⌜ Scratch (now lefts) (now rights) (now heads) (now next) (now classes) n ⌝ }
@@ -160,6 +171,6 @@ pub fn names(
     requires names { ⌜ n ≤ length (now names) ⌝ }
     ensures { λ _. ⌜ now (names .exit) ≡ map (name (bookOf (now (rows .entry)) n) (boundOf (now (bindings .entry)) n)) (from 0 n) ++ drop n (now (names .entry)) ⌝ }
 {
-    classify(rows, bindings, n, list, lefts, rights, heads, next, classes);
-    lowest_of_class(classes, n, lefts, rights, heads, next, names);
+    classify(rows, bindings, list, n, lefts, rights, heads, next, classes);
+    lowest_of_class(lefts, rights, heads, next, classes, n, names);
 }

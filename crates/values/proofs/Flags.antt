@@ -18,7 +18,6 @@ use Rattle.theory.proofs.Values.Equations.{val-free, val-bound, val-app}
 use Rattle.layout.specs.Rows.{at, nodeOf, bookOf, bindingOf, boundOf}
 use Rattle.layout.proofs.Rows.{length-bookOf, getD-bookOf, getD-boundOf, node-var, binding-none, binding-some, good-formed}
 use Rattle.order.specs.Order.{partsOf}
-use Rattle.values.specs.Reading.{Listed}
 use Rattle.values.specs.Steps.{flag, flagged, any, occursStep}
 use Rattle.values.proofs.Reading.{argumentsAt, node-arguments}
 use Rattle.values.proofs.Settled.{settled-parts, Filled, next-term}

@@ -10,7 +10,7 @@ use lib.ListN.{length, getD, take, drop, set, take-append-drop, length-take, len
 use lib.Seq.{getD-set-same, getD-set-other, getD-take, length-take-le, drop-set-lt}
 use Rattle.model.specs.Lists.{from}
 use Rattle.theory.proofs.Lists.Rows.{map-from}
-use Rattle.layout.specs.Rows.{at, nodeOf, bookOf, bindingOf, boundOf}
+use Rattle.layout.specs.Rows.{at, nodeOf, bindingOf}
 use Rattle.layout.proofs.Rows.{length-bookOf, getD-bookOf, getD-boundOf}
 use Rattle.order.specs.Order.{partsOf, parts, Before}
 use Rattle.values.specs.Reading.{Listed, Readable}

@@ -3,8 +3,8 @@
 
 ghost use mathlib.Core.Path.{_≡_};
 ghost use mathlib.Core.List.{_++_, map};
-ghost use Prim.Native.Nat.{ℕ, _+_, _*_, _<_, _≤_};
-ghost use lib.ListN.{length, getD, take, drop};
+ghost use Prim.Native.Nat.{ℕ, _<_, _≤_};
+ghost use lib.ListN.{length, drop};
 ghost use Rattle.model.specs.Lists.{from};
 ghost use Rattle.model.specs.Term.{derefStep, deref, val, occurs};
 ghost use Rattle.layout.specs.Rows.{at, nodeOf, bookOf, bindingOf, boundOf};

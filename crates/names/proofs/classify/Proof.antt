@@ -8,16 +8,16 @@ use Rattle.names.proofs.classify.Statement.{statement}
 use Rattle.names.proofs.classify.Tie as tie
 
 abbrev Inv-loop : tie.InvT-loop
-Inv-loop rows bindings n list lefts₀ rights₀ heads₀ next₀ classes₀ count₀ k₀ lefts rights heads next classes count k = Classifying rows bindings list n classes₀ lefts₀ rights₀ next₀ classes lefts rights heads next count k
+Inv-loop rows bindings list n lefts₀ rights₀ heads₀ next₀ classes₀ count₀ k₀ lefts rights heads next classes count k = Classifying rows bindings list n classes₀ lefts₀ rights₀ next₀ classes lefts rights heads next count k
 
 abbrev μ-loop : tie.MeasureT-loop
-μ-loop rows bindings n list lefts₀ rights₀ heads₀ next₀ classes₀ count₀ k₀ lefts rights heads next classes count k = n - k
+μ-loop rows bindings list n lefts₀ rights₀ heads₀ next₀ classes₀ count₀ k₀ lefts rights heads next classes count k = n - k
 
 clear-requires : tie.Need-clear-requires Inv-loop μ-loop
-clear-requires c κs = c .before .before .before .before .before .before .before .before .before .pre .1 .all-heads
+clear-requires c κs = c .before .before .before .before .before .before .before .before .before .pre .0 .all-heads
 
 loop-holds : tie.Need-loop-holds Inv-loop μ-loop
-loop-holds c = classifying-none (c .before .before .before .before .before .before .before .before .before .before .before .before .pre .0) (c .before .before .before .before .before .before .before .before .before .before .before .before .pre .1) (c .before .before .clear .ensures)
+loop-holds c = classifying-none (c .before .before .before .before .before .before .before .before .before .before .before .before .pre .1) (c .before .before .before .before .before .before .before .before .before .before .before .before .pre .0) (c .before .before .clear .ensures)
 
 mul-t : tie.Need-mul-t Inv-loop μ-loop
 mul-t c = omega arith
@@ -53,7 +53,7 @@ same-length-2 : tie.Need-same-length-2 Inv-loop μ-loop
 same-length-2 c = c .before .loop .inv .right-size
 
 same-length-3 : tie.Need-same-length-3 Inv-loop μ-loop
-same-length-3 c = omega (arith, c .before .loop .inv .indexed .all-heads, c .before .before .before .before .before .before .before .before .before .before .before .before .before .before .pre .1 .all-heads)
+same-length-3 c = omega (arith, c .before .loop .inv .indexed .all-heads, c .before .before .before .before .before .before .before .before .before .before .before .before .before .before .pre .0 .all-heads)
 
 same-length-4 : tie.Need-same-length-4 Inv-loop μ-loop
 same-length-4 c = c .before .loop .inv .next-size

@@ -7,10 +7,10 @@ use Rattle.names.proofs.lowest_of_class.Statement.{statement}
 use Rattle.names.proofs.lowest_of_class.Tie as tie
 
 abbrev Inv-loop : tie.InvT-loop
-Inv-loop classes n lefts₀ rights₀ heads₀ next₀ names₀ t₀ lefts rights heads next names t = Numbering classes n names₀ lefts₀ rights₀ next₀ names lefts rights heads next t
+Inv-loop lefts₀ rights₀ heads₀ next₀ classes n names₀ t₀ lefts rights heads next names t = Numbering classes n names₀ lefts₀ rights₀ next₀ names lefts rights heads next t
 
 abbrev μ-loop : tie.MeasureT-loop
-μ-loop classes n lefts₀ rights₀ heads₀ next₀ names₀ t₀ lefts rights heads next names t = n - t
+μ-loop lefts₀ rights₀ heads₀ next₀ classes n names₀ t₀ lefts rights heads next names t = n - t
 
 clear-requires : tie.Need-clear-requires Inv-loop μ-loop
 clear-requires c κs = c .before .before .before .before .before .before .before .pre .0 .all-heads

@@ -1,6 +1,6 @@
 -- `names::node_of` meets its contract: the loop walks through the classes of the arguments, from the last one down to the one at
 -- `j`, and the measure is `j`. Assumes nothing.
-use mathlib.Core.Path.{sym, _∙_}
+use mathlib.Core.Path.{sym}
 use mathlib.Core.List.{map}
 use Prim.Native.Nat.{_-_, _≤_}
 use native.Mathlib.Omega.{arith}
@@ -13,10 +13,10 @@ use Rattle.names.proofs.node_of.Statement.{statement}
 use Rattle.names.proofs.node_of.Tie as tie
 
 abbrev Inv-loop : tie.InvT-loop
-Inv-loop args classes symbol lefts₀ rights₀ heads₀ next₀ count node₀ pairs₀ j₀ lefts rights heads next node pairs j = Walk lefts₀ rights₀ next₀ count symbol (map (at classes) args) lefts rights heads next node pairs j × (j ≤ length args)
+Inv-loop symbol args classes lefts₀ rights₀ heads₀ next₀ count node₀ pairs₀ j₀ lefts rights heads next node pairs j = Walk lefts₀ rights₀ next₀ count symbol (map (at classes) args) lefts rights heads next node pairs j × (j ≤ length args)
 
 abbrev μ-loop : tie.MeasureT-loop
-μ-loop args classes symbol lefts₀ rights₀ heads₀ next₀ count node₀ pairs₀ j₀ lefts rights heads next node pairs j = j
+μ-loop symbol args classes lefts₀ rights₀ heads₀ next₀ count node₀ pairs₀ j₀ lefts rights heads next node pairs j = j
 
 loop-holds : tie.Need-loop-holds Inv-loop μ-loop
 loop-holds c = let pre = c .before .before .before .before .before .before .pre in (walk-none _ _ (now (c .before .before .before .before .before .before .args .args)) (now (c .before .before .before .before .before .before .args .classes)) (pre .0) (pre .1 .0) (pre .1 .1 .0), omega arith)

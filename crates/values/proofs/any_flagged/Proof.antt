@@ -1,7 +1,7 @@
 -- `values::any_flagged` meets its contract: whether some flag stands is so of the terms from `j` on. The measure is the terms
 -- that are left. Assumes nothing.
 use mathlib.Core.Path.{_≡_, refl}
-use Prim.Native.Nat.{_-_, _≤_}
+use Prim.Native.Nat.{_-_}
 use native.Mathlib.Omega.{arith}
 use lib.ListN.{length, drop}
 use Rattle.values.specs.Steps.{flagged, any}

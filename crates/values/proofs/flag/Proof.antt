@@ -1,5 +1,4 @@
 -- `values::flag` meets its contract: each case of the definition is one of the returns. Assumes nothing.
-use mathlib.Core.Path.{sym}
 use Rattle.values.specs.Steps.{flag}
 use Rattle.values.proofs.flag.Statement.{statement}
 use Rattle.values.proofs.flag.Tie as tie

@@ -8,16 +8,21 @@ use Rattle.names.proofs.classify.Statement.{statement}
 use Rattle.names.proofs.classify.Tie as tie
 
 abbrev Inv-loop : tie.InvT-loop
-Inv-loop rows bindings list n lefts₀ rights₀ heads₀ next₀ classes₀ count₀ k₀ lefts rights heads next classes count k = Classifying rows bindings list n classes₀ lefts₀ rights₀ next₀ classes lefts rights heads next count k
+Inv-loop rows bindings list n lefts₀ rights₀ heads₀ next₀ classes₀ count₀ k₀ lefts rights heads next classes count k =
+    Classifying rows bindings list n classes₀ lefts₀ rights₀ next₀ classes lefts rights heads next count k
 
 abbrev μ-loop : tie.MeasureT-loop
 μ-loop rows bindings list n lefts₀ rights₀ heads₀ next₀ classes₀ count₀ k₀ lefts rights heads next classes count k = n - k
+
+-- the loop's test from the turn's end
+abbrev turn : tie.After-slice-known10 Inv-loop μ-loop → tie.In-loop Inv-loop μ-loop
+turn c = c .before .before .before .before .before .before .before .before .before .before .before .before .before .before .before
 
 clear-requires : tie.Need-clear-requires Inv-loop μ-loop
 clear-requires c κs = c .before .before .before .before .before .before .before .before .before .pre .0 .all-heads
 
 loop-holds : tie.Need-loop-holds Inv-loop μ-loop
-loop-holds c = classifying-none (c .before .before .before .before .before .before .before .before .before .before .before .before .pre .1) (c .before .before .before .before .before .before .before .before .before .before .before .before .pre .0) (c .before .before .clear .ensures)
+loop-holds c = let pre = c .before .before .before .before .before .before .before .before .before .before .before .before .pre in classifying-none (pre .1) (pre .0) (c .before .before .clear .ensures)
 
 mul-t : tie.Need-mul-t Inv-loop μ-loop
 mul-t c = omega arith
@@ -29,22 +34,22 @@ class-of-requires : tie.Need-class-of-requires Inv-loop μ-loop
 class-of-requires c κs = next-classable (c .before .before .before .before .before .before .before .loop .inv) (c .before .before .before .before .before .before .loop-test .taken)
 
 cast-classes : tie.Need-cast-classes Inv-loop μ-loop
-cast-classes c = omega (arith, next-term (c .before .before .before .before .before .before .before .before .before .before .before .before .before .before .before .before .loop .inv .filled) (c .before .before .before .before .before .before .before .before .before .before .before .before .before .before .before .loop-test .taken))
+cast-classes c = omega (arith, next-term (turn c .before .loop .inv .filled) (turn c .loop-test .taken))
 
 mul-classes : tie.Need-mul-classes Inv-loop μ-loop
-mul-classes c = omega (arith, next-term (c .before .before .before .before .before .before .before .before .before .before .before .before .before .before .before .before .loop .inv .filled) (c .before .before .before .before .before .before .before .before .before .before .before .before .before .before .before .loop-test .taken))
+mul-classes c = omega (arith, next-term (turn c .before .loop .inv .filled) (turn c .loop-test .taken))
 
 slice-write-classes : tie.Need-slice-write-classes Inv-loop μ-loop
-slice-write-classes c = next-fits (c .before .before .before .before .before .before .before .before .before .before .before .before .before .before .before .before .loop .inv .filled) (c .before .before .before .before .before .before .before .before .before .before .before .before .before .before .before .loop-test .taken) .1
+slice-write-classes c = next-fits (turn c .before .loop .inv .filled) (turn c .loop-test .taken) .1
 
 add-k : tie.Need-add-k Inv-loop μ-loop
-add-k c = omega (arith, c .before .before .before .before .before .before .before .before .before .before .before .before .before .before .before .loop-test .taken)
+add-k c = omega (arith, turn c .loop-test .taken)
 
 loop-less : tie.Need-loop-less Inv-loop μ-loop
-loop-less c = omega (arith, c .before .before .before .before .before .before .before .before .before .before .before .before .before .before .before .loop-test .taken)
+loop-less c = omega (arith, turn c .loop-test .taken)
 
 loop-again : tie.Need-loop-again Inv-loop μ-loop
-loop-again c = classifying-more (c .before .before .before .before .before .before .before .before .before .before .before .before .before .before .before .before .loop .inv) (c .before .before .before .before .before .before .before .before .before .before .before .before .before .before .before .loop-test .taken) (c .before .before .before .before .before .before .before .before .class-of .ensures)
+loop-again c = classifying-more (turn c .before .loop .inv) (turn c .loop-test .taken) (c .before .before .before .before .before .before .before .before .class-of .ensures)
 
 same-length : tie.Need-same-length Inv-loop μ-loop
 same-length c = c .before .loop .inv .left-size

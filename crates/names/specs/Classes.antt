@@ -23,6 +23,7 @@ module _ (place : ℕ → ℕ → ℕ) where
   classStep n below t var (some u) = below u
   classStep n below t (app s args) bound = n + trieNode place s (map below args)
 
+  -- For an application, the pairs on the way to its node are among the first m.
   unfoldable pub StepPresent : ℕ → (ℕ → ℕ) → Node → Type 0
   StepPresent m below var = Unit {0}
   StepPresent m below (app s args) = Present place m s (map below args)

@@ -1,0 +1,94 @@
+-- `names::classify` meets its contract: after `k` terms of the list each of those has the class of its value. The measure is the
+-- terms that are left. Assumes nothing.
+use Prim.Native.Nat.{_-_}
+use native.Mathlib.Omega.{arith}
+use Rattle.values.proofs.Settled.{next-term, next-fits}
+use Rattle.names.proofs.Classifying.{Classifying, classifying-none, next-classable, classifying-more, classified}
+use Rattle.names.proofs.classify.Statement.{statement}
+use Rattle.names.proofs.classify.Tie as tie
+
+abbrev Inv-loop : tie.InvT-loop
+Inv-loop rows bindings list n lefts₀ rights₀ heads₀ next₀ classes₀ count₀ k₀ lefts rights heads next classes count k =
+    Classifying rows bindings list n classes₀ lefts₀ rights₀ next₀ classes lefts rights heads next count k
+
+abbrev μ-loop : tie.MeasureT-loop
+μ-loop rows bindings list n lefts₀ rights₀ heads₀ next₀ classes₀ count₀ k₀ lefts rights heads next classes count k = n - k
+
+-- the loop's test from the turn's end
+abbrev turn : tie.After-slice-known10 Inv-loop μ-loop → tie.In-loop Inv-loop μ-loop
+turn c = c .before .before .before .before .before .before .before .before .before .before .before .before .before .before .before
+
+clear-requires : tie.Need-clear-requires Inv-loop μ-loop
+clear-requires c κs = c .before .before .before .before .before .before .before .before .before .pre .0 .all-heads
+
+loop-holds : tie.Need-loop-holds Inv-loop μ-loop
+loop-holds c = let pre = c .before .before .before .before .before .before .before .before .before .before .before .before .pre in classifying-none (pre .1) (pre .0) (c .before .before .clear .ensures)
+
+mul-t : tie.Need-mul-t Inv-loop μ-loop
+mul-t c = omega arith
+
+shared-slice-read-t : tie.Need-shared-slice-read-t Inv-loop μ-loop
+shared-slice-read-t c = next-fits (c .before .before .loop .inv .filled) (c .before .loop-test .taken) .0
+
+class-of-requires : tie.Need-class-of-requires Inv-loop μ-loop
+class-of-requires c κs = next-classable (c .before .before .before .before .before .before .before .loop .inv) (c .before .before .before .before .before .before .loop-test .taken)
+
+cast-classes : tie.Need-cast-classes Inv-loop μ-loop
+cast-classes c = omega (arith, next-term (turn c .before .loop .inv .filled) (turn c .loop-test .taken))
+
+mul-classes : tie.Need-mul-classes Inv-loop μ-loop
+mul-classes c = omega (arith, next-term (turn c .before .loop .inv .filled) (turn c .loop-test .taken))
+
+slice-write-classes : tie.Need-slice-write-classes Inv-loop μ-loop
+slice-write-classes c = next-fits (turn c .before .loop .inv .filled) (turn c .loop-test .taken) .1
+
+add-k : tie.Need-add-k Inv-loop μ-loop
+add-k c = omega (arith, turn c .loop-test .taken)
+
+loop-less : tie.Need-loop-less Inv-loop μ-loop
+loop-less c = omega (arith, turn c .loop-test .taken)
+
+loop-again : tie.Need-loop-again Inv-loop μ-loop
+loop-again c = classifying-more (turn c .before .loop .inv) (turn c .loop-test .taken) (c .before .before .before .before .before .before .before .before .class-of .ensures)
+
+same-length : tie.Need-same-length Inv-loop μ-loop
+same-length c = c .before .loop .inv .left-size
+
+same-length-2 : tie.Need-same-length-2 Inv-loop μ-loop
+same-length-2 c = c .before .loop .inv .right-size
+
+same-length-3 : tie.Need-same-length-3 Inv-loop μ-loop
+same-length-3 c = omega (arith, c .before .loop .inv .indexed .all-heads, c .before .before .before .before .before .before .before .before .before .before .before .before .before .before .pre .0 .all-heads)
+
+same-length-4 : tie.Need-same-length-4 Inv-loop μ-loop
+same-length-4 c = c .before .loop .inv .next-size
+
+same-length-5 : tie.Need-same-length-5 Inv-loop μ-loop
+same-length-5 c = c .before .loop .inv .filled .size
+
+returns : tie.Need-returns Inv-loop μ-loop
+returns c = classified (c .before .loop .inv) (c .loop-test .left)
+
+pub classify-spec : {M : Type 1} → statement M
+classify-spec =
+    tie.close
+    (tie.spec
+    Inv-loop
+    μ-loop
+    clear-requires
+    loop-holds
+    mul-t
+    shared-slice-read-t
+    class-of-requires
+    cast-classes
+    mul-classes
+    slice-write-classes
+    add-k
+    loop-less
+    loop-again
+    same-length
+    same-length-2
+    same-length-3
+    same-length-4
+    same-length-5
+    returns)

@@ -1,0 +1,4 @@
+pub mod Reading
+pub mod Settled
+pub mod RootStep
+pub mod Flags

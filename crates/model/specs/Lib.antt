@@ -9,4 +9,5 @@ pub mod BookBytes
 pub mod Area
 pub mod Call
 pub mod Session
+pub mod Computing
 pub mod Samples

@@ -6,27 +6,21 @@
 -- on states with the office's limits.
 use mathlib.Core.Path.{_≡_, refl}
 use mathlib.Core.List.{List, [], _∷_, _++_, map}
-use mathlib.Core.Bool.{Bool, true, false, cond}
-use Prim.Native.Nat.{ℕ, zero, suc, _-_}
+use mathlib.Core.Bool.{cond}
+use Prim.Native.Nat.{ℕ, suc, _-_}
 use lib.ListN.{length, getD, take, replicate, set}
 use lib.Dec.{ltb, leb}
-use Rattle.leb128.specs.Number
 use Rattle.model.specs.Limits.{Limits, office}
-use Rattle.model.specs.Lists
 use Rattle.model.specs.Term
-use Rattle.model.specs.Table
 use Rattle.model.specs.Table.{entry}
-use Rattle.model.specs.Step
 use Rattle.model.specs.Step.{State, Answer, refused, accepted, addLine, bind, opened}
-use Rattle.model.specs.Report
 use Rattle.model.specs.Report.{reportBytes}
-use Rattle.model.specs.BookBytes
 use Rattle.model.specs.BookBytes.{Parsed, parsed, parseBook}
-use Rattle.model.specs.Area
 use Rattle.model.specs.Area.{areaLength, entryWords}
-use Rattle.model.specs.Call
 use Rattle.model.specs.Call.{Outcome, callOpen, callAdd, callBind, callEntry, callReport}
 use Rattle.model.specs.Session
+use Rattle.model.specs.Computing
+use Rattle.model.specs.Computing.{small, bookA, bookB}
 
 -- A question of a sample: add a line, fix a choice, read an entry, report into an output of some length.
 pub data Query : Type 0 where
@@ -47,12 +41,6 @@ pub record Sample : Type 0 where
   pub book : List ℕ
   pub capacity : ℕ
   pub said : List Said
-
-abbrev pub bookA : List ℕ
-bookA = 6 ∷ 0 ∷ 4 ∷ 0 ∷ 2 ∷ 1 ∷ 0 ∷ 2 ∷ 1 ∷ 1 ∷ 3 ∷ 2 ∷ 2 ∷ 0 ∷ 3 ∷ 2 ∷ 3 ∷ 1 ∷ []
-
-abbrev pub bookB : List ℕ
-bookB = 5 ∷ 0 ∷ 0 ∷ 4 ∷ 0 ∷ 2 ∷ 1 ∷ 1 ∷ 2 ∷ 1 ∷ 2 ∷ []
 
 -- all fields of an entry: 0, left, right, kind, symbol, count, eight arguments, same-as
 abbrev pub openEntry : ℕ → ℕ → ℕ → List ℕ
@@ -209,13 +197,9 @@ answersOf capacity qs (Parsed.unparsed n) = (n ∷ []) ∷ []
 unfoldable pub onStates : Sample → List (List ℕ)
 onStates s = answersOf (s .capacity) (queries s) (parseBook office (s .book))
 
--- limits that hold the samples
-abbrev pub small : Limits
-small = record { maxTerms = 6; maxCapacity = 3; maxLines = 2 }
-
--- Everything that the samples compute with: who unfolds it unfolds all.
+-- Everything that the samples compute with, their runners included: who unfolds it unfolds all.
 unfoldable pub computation : Unit {0}
-unfolding Number.write Number.prepend Number.readGroups Number.atMost Number.read Lists.all Lists.first Lists.from Lists.concatMap Lists.pairwise Lists.isEmpty Lists.eqNumbers Lists.padded Term.symbol Term.arguments Term.alike Term.trees Term.valueStep Term.value Term.endsStep Term.ends Term.derefStep Term.deref Term.eqTree Term.eqTrees Term.occurs Term.occursAny Term.acyclic Term.root Term.name Table.isHole Table.holds Table.entryOf Table.place Table.placeAll Table.turn Table.visit Table.walk Table.settle Step.opened Step.require Step.saturate Step.addLine Step.isFree Step.turned Step.bind Report.meet Report.meetAll Report.kindArguments Report.class Report.argumentClasses Report.meetArguments Report.order Report.number Report.kindNumbers Report.entryNumbers Report.report Report.numberBytes Report.reportBytes BookBytes.andThen BookBytes.need BookBytes.fromRead BookBytes.parseNumber BookBytes.arityFits BookBytes.parseArguments BookBytes.parseApp BookBytes.parseNode BookBytes.parseTerms BookBytes.parseBook BookBytes.nodeNumbers BookBytes.bookBytes Area.toBytes Area.fromBytes Area.areaLength Area.nodeWords Area.bindingWord Area.kindWords Area.entryWords Area.areaWords Area.areaBytes Area.word Area.wordsAt Area.nodeAt Area.bindingAt Area.kindAt Area.entryAt Area.stateOf Area.rangesOk Area.nodeOk Area.bindingOk Area.termsOk Area.argumentsOk Area.kindOk Area.entryOk Area.samePair Area.distinct Area.soundState Area.sound Call.refuse Call.accept Call.guard Call.over Call.emit Call.copyParsed Call.openParsed Call.callOpen Call.stepped Call.callAdd Call.callBind Call.callEntry Call.callReport Call.callWrite Call.callCopy Session.orStop Session.answered Session.step Session.steps Session.begin Session.withLength Session.session shown shownReport replies onBytes shownAnswer after answers answersOf onStates
+unfolding Computing.computation shown shownReport replies onBytes shownAnswer after answers answersOf onStates
 computation = tt
 
 -- The samples hold of the calls on bytes, with limits that just hold them.

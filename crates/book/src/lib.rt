@@ -23,8 +23,8 @@ pub struct Decoding {
     pub terms: u32,
 }
 
-// Decodes a book into the rows of as many terms as the limit, which are all zero. After a refusal the rows hold what was
-// decoded before it.
+// Decodes a book into the rows of as many terms as the limit, which are all zero. After a refusal nothing is promised of the
+// rows.
 pub fn decode(bytes: &[u8], lim: layout::Limits, rows: &mut [u32]) -> Decoding
     requires { ⌜ Modest (limitsOf lim) × (now rows ≡ replicate (termWords * lim .terms) 0) ⌝ }
     ensures refusal { λ r. ⌜ r .refusal ≡ refusalOf (parseBook (limitsOf lim) (now (bytes .entry))) ⌝ }

@@ -17,6 +17,7 @@ use Rattle.model.specs.Call.{over}
 use Rattle.theory.proofs.Lists.Laws.{concatMap-append}
 use Rattle.theory.proofs.Area.Words.{length-words}
 use Rattle.words.specs.Words.{laid, cleared}
+use Rattle.words.proofs.Behind.{drop-behind, laid-behind}
 use Rattle.fit.specs.Opened.{openedWords}
 
 -- words of zero are bytes of zero
@@ -62,16 +63,7 @@ unfolding areaWords opened openedWords concatMap
 opened-words lim b c h =
     ap (λ xs. c ∷ length b ∷ 0 ∷ 0 ∷ (padded (termWords * lim .maxTerms) (concatMap nodeWords b) ++ xs)) (opened-zeros lim b c h)
 
--- what a write behind a first part leaves
-drop-behind : (p rest : List ℕ) (n m k : ℕ) → length p ≡ n → k ≡ n + m → drop k (p ++ rest) ≡ drop m rest
-drop-behind p rest n m k h e = ap (λ i. drop i (p ++ rest)) (e ∙ ap (λ i. i + m) (sym h)) ∙ drop-append-add p rest m
-
-laid-behind : (p rest : List ℕ) (start : ℕ) (words : List ℕ) → length p ≡ wordSize * start
-    → laid (p ++ rest) start words ≡ (p ++ concatMap (toBytes wordSize) words) ++ drop (wordSize * length words) rest
-unfolding laid
-laid-behind p rest start words h =
-    rw (take-at p rest (wordSize * start) h, drop-behind p rest (wordSize * start) (wordSize * length words) (wordSize * (start + length words)) h (omega arith), append-assoc)
-
+-- zeros behind a first part
 cleared-behind : (p rest : List ℕ) (a e : ℕ) → length p ≡ a → a ≤ e → cleared (p ++ rest) a e ≡ (p ++ replicate (e - a) 0) ++ drop (e - a) rest
 unfolding cleared
 cleared-behind p rest a e h g =

@@ -1,12 +1,13 @@
 -- What rows of words hold: the terms, the bindings and the entries of a state that is loaded into arrays, one array for each
 -- kind of row (docs/LAYOUT.md). Assumes nothing: these are definitions.
-use mathlib.Core.List.{List, map}
+use mathlib.Core.Path.{_≡_}
+use mathlib.Core.List.{List, _∷_, _++_, map}
 use mathlib.Core.Bool.{cond}
 use mathlib.Core.Option.{Option, none, some}
 use Prim.Native.Nat.{ℕ, _+_, _*_, _-_, _≤_, _<_}
 use lib.ListN.{length, getD, take, drop}
 use lib.Dec.{T, eqb}
-use Rattle.model.specs.Limits.{maxArity}
+use Rattle.model.specs.Limits.{Limits, maxArity}
 use Rattle.model.specs.Lists.{from}
 use Rattle.model.specs.Term.{Node, var, app, Book, Bindings}
 use Rattle.model.specs.Table.{Kind, hole, common, Entry, Table}
@@ -61,6 +62,18 @@ pub record Loaded : Type 0 where
   pub bindingWords : List ℕ
   pub lineWords : List ℕ
   pub entryRows : List ℕ
+
+-- Each part has the length that the limits and the capacity give it.
+pub record Sized (lim : Limits) (w : Loaded) : Type 0 where
+  pub terms-long : length (w .termRows) ≡ termWords * lim .maxTerms
+  pub bindings-long : length (w .bindingWords) ≡ lim .maxTerms
+  pub lines-long : length (w .lineWords) ≡ lim .maxLines
+  pub entries-long : length (w .entryRows) ≡ entryRowWords * w .capacity
+
+-- The words in the order of the area.
+unfoldable pub loadedWords : Loaded → List ℕ
+loadedWords w =
+    w .capacity ∷ w .terms ∷ w .entries ∷ w .lines ∷ w .termRows ++ (w .bindingWords ++ (w .lineWords ++ w .entryRows))
 
 unfoldable pub loadedState : Loaded → State
 loadedState w =

@@ -17,14 +17,14 @@ use Rattle.theory.proofs.Soundness.Facts.{SoundFacts}
 use Rattle.theory.proofs.Soundness.Test.{ranges, tests, sound-facts}
 use Rattle.theory.proofs.Lists.Conjunctions.{and₂}
 use Rattle.theory.proofs.Area.Layout.{wide-nodes, wide-entries}
-use Rattle.layout.specs.Rows.{Loaded, loadedState, nodeOf, bookOf, loadedEntry, tableOf}
+use Rattle.layout.specs.Rows.{Loaded, loadedState, nodeOf, bookOf, loadedEntry, tableOf, Sized}
 use Rattle.layout.proofs.Rows.{length-bookOf, length-boundOf, length-tableOf, few-arguments, binding-words}
 use Rattle.sound.specs.Sound.{valuesOk, tableOk}
 use Rattle.sound.proofs.Facts.{RowFacts}
 use Rattle.sound.proofs.Padded.{to-padded, from-padded, rows-padded, padded-rows}
 use Rattle.sound.proofs.State.{Fits}
 use Rattle.sound.proofs.StateTests.{node-tests, terms-tests, arity-tests, table-tests}
-use Rattle.sound.proofs.Parts.{Sized, Holds}
+use Rattle.sound.proofs.Parts.{Holds}
 
 module _ (lim : Limits) (w : Loaded) (fits : Fits lim w) where
   -- rows in order are the words of the state in them

@@ -15,20 +15,8 @@ use Rattle.theory.proofs.Soundness.Facts.{SoundFacts}
 use Rattle.theory.proofs.Lists.Rows.{padded-row}
 use Rattle.theory.proofs.Area.Rows.{kindArguments}
 use Rattle.theory.proofs.Area.Layout.{wide-nodes, wide-entries, entry-arity, length-nodes, length-bound, length-lines}
-use Rattle.layout.specs.Rows.{Loaded}
+use Rattle.layout.specs.Rows.{Loaded, Sized, loadedWords}
 use Rattle.sound.proofs.State.{Fits}
-
--- The words of a loaded state in the order of the area.
-unfoldable pub loadedWords : Loaded → List ℕ
-loadedWords w =
-    w .capacity ∷ w .terms ∷ w .entries ∷ w .lines ∷ w .termRows ++ (w .bindingWords ++ (w .lineWords ++ w .entryRows))
-
--- Each part has the length that the limits and the capacity give it.
-pub record Sized (lim : Limits) (w : Loaded) : Type 0 where
-  pub terms-long : length (w .termRows) ≡ termWords * lim .maxTerms
-  pub bindings-long : length (w .bindingWords) ≡ lim .maxTerms
-  pub lines-long : length (w .lineWords) ≡ lim .maxLines
-  pub entries-long : length (w .entryRows) ≡ entryRowWords * w .capacity
 
 -- Each part holds the words of the state.
 pub record Holds (lim : Limits) (w : Loaded) (s : State) : Type 0 where

@@ -16,12 +16,12 @@ use Rattle.theory.proofs.Lists.Conjunctions.{and₂, and₃}
 use Rattle.theory.proofs.Soundness.Facts.{SoundFacts}
 use Rattle.theory.proofs.Soundness.Test.{sound-facts, facts-sound}
 use Rattle.theory.proofs.Area.Bytes.{Carries, carried-sound, sound-carries}
-use Rattle.layout.specs.Rows.{Loaded, loadedState}
+use Rattle.layout.specs.Rows.{Loaded, loadedState, loadedWords}
 use Rattle.sound.specs.Sound.{loaded, headerOk, rowsOk, tableOk, soundLoaded, SoundByParts, StateByParts}
 use Rattle.sound.proofs.Facts.{HeaderFacts, RowFacts}
 use Rattle.sound.proofs.Tests.{header-facts, row-facts}
 use Rattle.sound.proofs.State.{Fits, state-loaded}
-use Rattle.sound.proofs.Parts.{loadedWords, Holds, whole, parts, holds-fits}
+use Rattle.sound.proofs.Parts.{Holds, whole, parts, holds-fits}
 use Rattle.sound.proofs.Chain.{rows-hold, chain-sound, sound-chain}
 use Rattle.sound.proofs.Words.{loaded-sized, carried-loaded, loaded-carried}
 

@@ -20,7 +20,7 @@ use Rattle.words.proofs.Runs.{length-wordsAt}
 use Rattle.words.proofs.Parts.{wordsAt-append}
 use Rattle.words.proofs.Laws.{loaded-bytes}
 use Rattle.sound.specs.Sound.{loaded}
-use Rattle.sound.proofs.Parts.{loadedWords, Sized}
+use Rattle.layout.specs.Rows.{loadedWords, Sized}
 
 module _ (lim : Limits) (area : List ℕ) where
   -- the words that the capacity in the header needs

@@ -21,15 +21,19 @@ pub record Named (b : Book) (β : Bindings) (names entries : List ℕ) (m : ℕ)
   pub entries-fit : entryRowWords * m ≤ length entries
   pub entry-rows : T (entryRowsOk entries m (length b))
 
--- The rows of the book too, which obeys the rules of terms and has no value that contains itself, and what each term stands for.
-pub record Known (b : Book) (β : Bindings) (rows roots names entries : List ℕ) (m : ℕ) : Type 0 where
+-- The rows of the book besides: it obeys the rules of terms, and has no value that contains itself.
+pub record Held (b : Book) (β : Bindings) (rows names entries : List ℕ) (m : ℕ) : Type 0 where
   pub is-proper : T (proper b β)
   pub is-book : b ≡ bookOf rows (length b)
   pub rows-fit : termWords * length b ≤ length rows
   pub few-arguments : (t : ℕ) → t < length b → at rows (termWords * t + 1) ≤ maxArity
+  pub named : Named b β names entries m
+
+-- And what each term stands for.
+pub record Known (b : Book) (β : Bindings) (rows roots names entries : List ℕ) (m : ℕ) : Type 0 where
+  pub held : Held b β rows names entries m
   pub roots-fit : length b ≤ length roots
   pub is-root : (t : ℕ) → t < length b → at roots t ≡ deref b β (length b) t
-  pub named : Named b β names entries m
 
 -- The numbers of a list are terms of the book.
 abbrev pub Terms : Book → List ℕ → Type 0

@@ -6,7 +6,7 @@ use mathlib.Core.Option.{Option, none, some}
 use Prim.Native.Nat.{ℕ, _+_, _*_, _-_, _≤_, _<_, zero-le}
 use native.Mathlib.Nat.{zero-add}
 use native.Mathlib.Omega.{arith}
-use borrow.Author.Tests.{eqb-true, eqb-false}
+use borrow.Author.Tests.{eqb-true, eqb-false, eq-eqb, ne-eqb}
 use lib.ListN.{length, getD, take, drop, length-take}
 use lib.Seq.{length-take-le, getD-take}
 use lib.Dec.{eqb}
@@ -44,6 +44,17 @@ module _ (words : List ℕ) (n : ℕ) where
   pub getD-tableOf : (i : ℕ) (d : Entry) → i < n → getD (tableOf words n) i d ≡ loadedEntry words i
   unfolding tableOf
   getD-tableOf i d h = rw zero-add at (getD-map-from (loadedEntry words) 0 n i d h)
+
+-- a term by its first word
+module _ (rows : List ℕ) (t : ℕ) where
+  pub node-var : at rows (termWords * t) ≡ 0 → nodeOf rows t ≡ var
+  unfolding nodeOf
+  node-var e = rw (eq-eqb (at rows (termWords * t)) 0 e)
+
+  pub node-app : (at rows (termWords * t) ≡ 0 → ⊥)
+      → nodeOf rows t ≡ app (at rows (termWords * t) - 1) (take (at rows (termWords * t + 1)) (drop (termWords * t + 2) rows))
+  unfolding nodeOf
+  node-app h = rw (ne-eqb (at rows (termWords * t)) 0 h)
 
 -- a term in a row has at most as many arguments as its count says
 few-at : (t : Bool) (s c : ℕ) (xs : List ℕ) → length (arguments (cond t var (app s (take c xs)))) ≤ c

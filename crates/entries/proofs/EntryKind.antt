@@ -2,10 +2,11 @@
 use mathlib.Core.Path.{_≡_, refl, ap, sym, _∙_}
 use mathlib.Core.List.{List}
 use mathlib.Core.Bool.{Bool, true, false, cond, _&&_}
-use Prim.Native.Nat.{ℕ, _+_, _*_, _-_}
+use Prim.Native.Nat.{ℕ, _+_, _*_, _-_, _<_}
+use native.Mathlib.Nat.{add-sub-cancel-left}
 use native.Mathlib.Omega.{arith}
 use borrow.Author.Tests.{ne-eqb, eqb-true, eqb-false}
-use lib.ListN.{take, drop}
+use lib.ListN.{length, take, drop}
 use lib.Dec.{T, eqb, eqb→eq}
 use Rattle.model.specs.Term.{Node, var, app, symbol, arguments, alike, Book, Bindings}
 use Rattle.model.specs.Table.{hole, common, Table}
@@ -14,6 +15,8 @@ use Rattle.theory.proofs.Lists.Laws.{true-T, same-test}
 use Rattle.theory.proofs.Soundness.Table.{eq-T}
 use Rattle.layout.specs.Rows.{at, nodeOf, kindOf}
 use Rattle.layout.proofs.Rows.{node-var, node-app}
+use Rattle.entries.specs.Known.{Named, Held, Terms}
+use Rattle.entries.proofs.Rows.{argument-terms}
 
 -- an application and a term, by their first words
 symbols-at : (x y : ℕ) (xs ys : List ℕ) → (x ≡ 0 → ⊥) → (t : Bool) → eqb y 0 ≡ t → eqb x y ≡ alike (app (x - 1) xs) (cond t var (app (y - 1) ys))
@@ -68,3 +71,14 @@ module _ (b : Book) (β : Bindings) (es : Table) (entries rows : List ℕ) (k l 
     unfolding kindOf kindOk symbol arguments
     common-kind d =
         rw (ne-eqb (at entries k) 0 d, e, node-app rows l (left-applied rows l r e), node-app rows r (right-applied rows l r e))
+
+-- what the test of the arguments asks: those of two terms that are alike are terms
+pub arguments-known : {b : Book} {β : Bindings} {rows names entries : List ℕ} {m : ℕ} → Held b β rows names entries m
+    → (l r : ℕ) → l < length b → r < length b → alike (nodeOf rows l) (nodeOf rows r) ≡ true → Named b β names entries m
+    × Terms b (take (termWords * l + 2 + at rows (termWords * l + 1) - (termWords * l + 2)) (drop (termWords * l + 2) rows))
+    × Terms b (take (termWords * r + 2 + at rows (termWords * r + 1) - (termWords * r + 2)) (drop (termWords * r + 2) rows))
+arguments-known {rows = rows} k l r p q e = (
+  k .named,
+  rw add-sub-cancel-left (argument-terms k l p (left-applied rows l r e)),
+  rw add-sub-cancel-left (argument-terms k r q (right-applied rows l r e)),
+)

@@ -2,7 +2,7 @@
 use mathlib.Core.Path.{_≡_, ap, sym, _∙_}
 use mathlib.Core.List.{List}
 use mathlib.Core.Bool.{false, _&&_}
-use Prim.Native.Nat.{ℕ, _+_, _*_, _≤_, _<_}
+use Prim.Native.Nat.{ℕ, _+_, _*_, _-_, _≤_, _<_}
 use native.Mathlib.Omega.{arith}
 use borrow.Author.Tests.{lt-ltb, le-ltb}
 use lib.ListN.{length, getD, take, drop}
@@ -11,23 +11,23 @@ use Rattle.model.specs.Lists.{all, from}
 use Rattle.model.specs.Limits.{maxArity}
 use Rattle.model.specs.Term.{var, arguments, Book, Bindings, root}
 use Rattle.model.specs.Table.{Entry, holeAt, entry, holds}
-use Rattle.model.specs.Area.{termWords, entryRowWords}
+use Rattle.model.specs.Area.{termWords, entryRowWords, kindOk}
 use Rattle.theory.proofs.Lists.Laws.{and-left}
 use Rattle.theory.proofs.Soundness.Facts.{Formed, Acyclic}
 use Rattle.theory.proofs.Soundness.Proper.{proper-facts}
 use Rattle.theory.proofs.Soundness.Terms.{all-below}
 use Rattle.theory.proofs.Values.Ends.{argument-lt}
 use Rattle.theory.proofs.Values.Equations.{deref-lt}
-use Rattle.layout.specs.Rows.{at, nodeOf, loadedEntry, tableOf}
+use Rattle.layout.specs.Rows.{at, nodeOf, kindOf, loadedEntry, tableOf}
 use Rattle.layout.proofs.Rows.{length-tableOf, getD-bookOf, getD-tableOf, node-app}
 use Rattle.rows.specs.RowTests.{zeroFrom, entryRowOk, entryRowsOk}
 use Rattle.sound.proofs.Facts.{EntryRow}
 use Rattle.sound.proofs.Tests.{entry-row}
 use Rattle.entries.specs.Known.{Named, Held, Known, Terms}
-use Rattle.entries.specs.Tests.{argumentRight}
+use Rattle.entries.specs.Tests.{argumentRight, kindRight}
 use Rattle.entries.proofs.Names.{holds-names}
 
--- the sides and same-as of entry i are words of its row
+-- the parts of entry i are words of its row
 module _ (entries : List ℕ) (m i : ℕ) (l : i < m) where
   pub entry-loaded : entry (tableOf entries m) i ≡ loadedEntry entries i
   entry-loaded = getD-tableOf entries m i (holeAt 0 0 0) l
@@ -40,6 +40,14 @@ module _ (entries : List ℕ) (m i : ℕ) (l : i < m) where
   unfolding loadedEntry
   entry-right = ap (λ (e : Entry). e .right) entry-loaded
 
+  pub entry-kind : entry (tableOf entries m) i .kind ≡ kindOf entries (entryRowWords * i + 2)
+  unfolding loadedEntry
+  entry-kind = ap (λ (e : Entry). e .kind) entry-loaded
+
+  pub entry-same-as : entry (tableOf entries m) i .sameAs ≡ at entries (entryRowWords * i + entryRowWords - 1)
+  unfolding loadedEntry
+  entry-same-as = ap (λ (e : Entry). e .sameAs) entry-loaded
+
 module _ {b : Book} {β : Bindings} {names entries : List ℕ} {m : ℕ} (k : Named b β names entries m) {i : ℕ} (l : i < m) where
   row : EntryRow entries (length b) i
   unfolding entryRowsOk
@@ -48,21 +56,24 @@ module _ {b : Book} {β : Bindings} {names entries : List ℕ} {m : ℕ} (k : Na
       (all-below (entryRowOk entries (length b)) m
       (and-left (all (entryRowOk entries (length b)) (from 0 m)) (zeroFrom entries (entryRowWords * m)) (k .entry-rows)) i l)
 
-  -- the sides are terms, and the count is no larger than a row has places
+  -- the sides are terms
   pub left-lt : at entries (entryRowWords * i) < length b
   left-lt = ltb→lt _ _ (row .left)
 
   pub right-lt : at entries (entryRowWords * i + 1) < length b
   right-lt = ltb→lt _ _ (row .right)
 
-  pub count-le : at entries (entryRowWords * i + 4) ≤ maxArity
-  count-le = row .count
-
   pub left-term : entry (tableOf entries m) i .left < length b
   left-term = rw (entry-left entries m i l) left-lt
 
   pub right-term : entry (tableOf entries m) i .right < length b
   right-term = rw (entry-right entries m i l) right-lt
+
+  -- the arguments lie in the rows
+  pub arguments-end : entryRowWords * i + 2 + 3 + at entries (entryRowWords * i + 2 + 2) ≤ length entries
+  arguments-end =
+      let there : entryRowWords * i + 2 + 2 ≡ entryRowWords * i + 4 = omega arith in
+      rw there (omega (arith, row .count, k .entries-fit))
 
   -- entry i has the values of two terms where the names of its sides are theirs
   pub argument-names : (t u : ℕ) → t < length b → u < length b → argumentRight b β (tableOf entries m) i t u
@@ -88,7 +99,10 @@ module _ {b : Book} {β : Bindings} {rows names entries : List ℕ} {m : ℕ} (k
   term-row : (t : ℕ) → t < length b → getD b t var ≡ nodeOf rows t
   term-row t l = ap (λ (c : Book). getD c t var) (k .is-book) ∙ getD-bookOf rows (length b) t var l
 
-  -- the arguments of an application are terms
+  -- the arguments lie in the rows, and those of an application are terms
+  pub row-end : (t : ℕ) → t < length b → termWords * t + 2 + at rows (termWords * t + 1) ≤ length rows
+  row-end t l = omega (arith, k .few-arguments t l, k .rows-fit)
+
   pub argument-terms : (t : ℕ) → t < length b → (at rows (termWords * t) ≡ 0 → ⊥)
       → Terms b (take (at rows (termWords * t + 1)) (drop (termWords * t + 2) rows))
   unfolding arguments
@@ -102,3 +116,12 @@ module _ {b : Book} {β : Bindings} {rows roots names entries : List ℕ} {m : �
   pub root-row : root b β t ≡ nodeOf rows (at roots t)
   unfolding root
   root-row = rw (← k .is-root t l) (term-row (k .held) (at roots t) root-lt)
+
+-- the kind of entry i is tested on the rows of what its sides stand for
+pub kind-roots : {b : Book} {β : Bindings} {rows roots names entries : List ℕ} {m : ℕ} → Known b β rows roots names entries m → {i : ℕ} → i < m →
+    let es = tableOf entries m in
+    kindRight b β es (entry es i)
+    ≡ kindOk b β es (entry es i .kind) (nodeOf rows (at roots (at entries (entryRowWords * i)))) (nodeOf rows (at roots (at entries (entryRowWords * i + 1))))
+unfolding kindRight
+kind-roots {entries = entries} {m = m} k {i} l =
+    rw (entry-left entries m i l, entry-right entries m i l, root-row k (left-lt (k .held .named) l), root-row k (right-lt (k .held .named) l))

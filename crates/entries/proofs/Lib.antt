@@ -3,3 +3,4 @@ pub mod Places
 pub mod Rows
 pub mod Arguments
 pub mod EntryKind
+pub mod Table

@@ -46,6 +46,19 @@ pub record Filling (f : ℕ → ℕ) (es : Table) (lefts₀ rights₀ next₀ le
   pub rights-size : length rights ≡ length rights₀
   pub next-size : length next ≡ length next₀
 
+-- slices of the same lengths have the same room
+pub room-kept : {lefts rights heads next lefts′ rights′ heads′ next′ : List ℕ} {m : ℕ} → Room lefts rights heads next m
+    → length lefts′ ≡ length lefts → length rights′ ≡ length rights → length heads′ ≡ length heads → length next′ ≡ length next
+    → Room lefts′ rights′ heads′ next′ m
+room-kept r l h k n =
+    record {
+      lefts-fit = rw l (r .lefts-fit);
+      rights-fit = rw h (r .rights-fit);
+      next-fit = rw n (r .next-fit);
+      words = rw l (r .words);
+      all-heads = rw k (r .all-heads);
+    }
+
 module _ (f : ℕ → ℕ) (es : Table) where
   -- entry i has its pair at place i
   side-pair : (i : ℕ) → i < length es → Holds (leftsBy f es) (rightsBy f es) i (f (entry es i .left)) (f (entry es i .right))

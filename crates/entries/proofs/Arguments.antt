@@ -12,7 +12,7 @@ use Rattle.model.specs.Area.{argumentsOk}
 use Rattle.theory.proofs.Lists.Laws.{T-true, true-T, not-T-false}
 use Rattle.theory.proofs.Lists.Conjunctions.{and₂}
 use Rattle.theory.proofs.Soundness.Facts.{Has}
-use Rattle.theory.proofs.Soundness.Table.{has-facts, ArgumentFacts, argument-facts, facts-argument}
+use Rattle.theory.proofs.Soundness.Table.{has-facts, argument-facts, facts-argument}
 use Rattle.theory.proofs.Values.Equations.{eq-holds}
 use Rattle.rows.proofs.Loops.{Passed}
 use Rattle.entries.specs.Tests.{argumentRight}

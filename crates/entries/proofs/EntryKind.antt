@@ -1,5 +1,5 @@
 -- The kind of an entry, by the words of its row and of the rows of two terms. Assumes nothing.
-use mathlib.Core.Path.{_≡_, refl, ap, sym, _∙_}
+use mathlib.Core.Path.{_≡_, refl, ap, _∙_}
 use mathlib.Core.List.{List}
 use mathlib.Core.Bool.{Bool, true, false, cond, _&&_}
 use Prim.Native.Nat.{ℕ, _+_, _*_, _-_, _<_}
@@ -7,7 +7,7 @@ use native.Mathlib.Nat.{add-sub-cancel-left}
 use native.Mathlib.Omega.{arith}
 use borrow.Author.Tests.{ne-eqb, eqb-true, eqb-false}
 use lib.ListN.{length, take, drop}
-use lib.Dec.{T, eqb, eqb→eq}
+use lib.Dec.{eqb, eqb→eq}
 use Rattle.model.specs.Term.{Node, var, app, symbol, arguments, alike, Book, Bindings}
 use Rattle.model.specs.Table.{hole, common, Table}
 use Rattle.model.specs.Area.{termWords, argumentsOk, kindOk}

@@ -1,7 +1,7 @@
 -- The pairs of a table's sides, each number under a function, pushed in order: what each push answers. Assumes nothing.
 use mathlib.Core.Path.{_≡_, refl, sym, _∙_}
 use mathlib.Core.List.{List, map}
-use Prim.Native.Nat.{ℕ, suc, _+_, _<_}
+use Prim.Native.Nat.{ℕ, _+_, _<_}
 use native.Mathlib.Nat.{not-suc-le-zero}
 use native.Mathlib.Numerals.{add-one}
 use native.Mathlib.Omega.{arith}
@@ -12,13 +12,13 @@ use Rattle.model.specs.Lists.{all, from}
 use Rattle.model.specs.Term.{Book, Bindings, name}
 use Rattle.model.specs.Table.{Entry, Table, holeAt, entry, entryOf}
 use Rattle.model.specs.Area.{distinct}
-use Rattle.theory.proofs.Lists.Laws.{T-true, true-T, same-test}
+use Rattle.theory.proofs.Lists.Laws.{same-test}
 use Rattle.theory.proofs.Soundness.Table.{eq-T, distinct-facts, facts-distinct}
 use Rattle.theory.proofs.Soundness.Terms.{all-below, below-all}
 use Rattle.theory.proofs.Table.Search.{getD-map-lt}
 use Rattle.pairs.specs.Pairs.{placeOf}
 use Rattle.pairs.specs.Index.{Indexed, noHeads, Pushed}
-use Rattle.pairs.proofs.Laws.{Holds, Kept, place-holds, place-le, place-least, place-none, place-at, place-kept, kept-set, holds-set}
+use Rattle.pairs.proofs.Laws.{Holds, Kept, place-least, place-none, place-at, place-kept, kept-set, holds-set}
 use Rattle.pairs.proofs.Growth.{indexed-none}
 use Rattle.entries.specs.Known.{Room}
 use Rattle.entries.proofs.Names.{SideNames, entryOf-place}

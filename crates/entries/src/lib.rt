@@ -109,7 +109,14 @@ fn kind_fits(
     let args_end = args + entries[kind + 2] as usize;
     let ls_end = ls + rows[left + 1] as usize;
     let rs_end = rs + rows[right + 1] as usize;
-    arguments_ok(names, entries, m, &entries[args..args_end], &rows[ls..ls_end], &rows[rs..rs_end])
+    arguments_ok(
+        names,
+        entries,
+        m,
+        &entries[args..args_end],
+        &rows[ls..ls_end],
+        &rows[rs..rs_end],
+    )
 }
 
 // Whether the kind of entry `i` is right for what its sides stand for.
@@ -122,7 +129,15 @@ fn kind_ok(rows: &[u32], roots: &[u32], names: &[u32], entries: &[u32], m: usize
     let row = ENTRY_WORDS * i;
     let left = entries[row] as usize;
     let right = entries[row + 1] as usize;
-    kind_fits(rows, names, entries, m, i, roots[left] as usize, roots[right] as usize)
+    kind_fits(
+        rows,
+        names,
+        entries,
+        m,
+        i,
+        roots[left] as usize,
+        roots[right] as usize,
+    )
 }
 
 // Whether the kind of each of the `m` entries is right.
@@ -173,8 +188,8 @@ pub fn same_as_ok(
 
 // Whether no two of the `m` entries hold the same two term numbers.
 pub fn distinct_ok(
-    entries: &[u32],
     m: usize,
+    entries: &[u32],
     lefts: &mut [u32],
     rights: &mut [u32],
     heads: &mut [u32],
@@ -188,7 +203,15 @@ pub fn distinct_ok(
     let mut i = 0;
     while i < m {
         let row = ENTRY_WORDS * i;
-        let place = pairs::push(lefts, rights, heads, next, i, entries[row], entries[row + 1]);
+        let place = pairs::push(
+            lefts,
+            rights,
+            heads,
+            next,
+            i,
+            entries[row],
+            entries[row + 1],
+        );
         if place != i {
             return false;
         }
@@ -199,15 +222,15 @@ pub fn distinct_ok(
 
 // Whether the table of `m` entries passes the tests that look at values and at pairs of entries.
 pub fn table_ok(
+    lefts: &mut [u32],
+    rights: &mut [u32],
+    heads: &mut [u32],
+    next: &mut [u32],
     rows: &[u32],
     roots: &[u32],
     names: &[u32],
     entries: &[u32],
     m: usize,
-    lefts: &mut [u32],
-    rights: &mut [u32],
-    heads: &mut [u32],
-    next: &mut [u32],
 ) -> bool
     requires known { ⌜ Given (λ b β. Known b β (now rows) (now roots) (now names) (now entries) m) ⌝ }
     requires room { ⌜ Room (now lefts) (now rights) (now heads) (now next) m ⌝ }
@@ -220,5 +243,5 @@ pub fn table_ok(
     if !same_as_ok(names, entries, m, lefts, rights, heads, next) {
         return false;
     }
-    distinct_ok(entries, m, lefts, rights, heads, next)
+    distinct_ok(m, entries, lefts, rights, heads, next)
 }

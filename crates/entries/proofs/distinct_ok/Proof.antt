@@ -1,7 +1,7 @@
 -- `entries::distinct_ok` meets its contract: the loop's invariant says that the pairs of the entries before `i` are pushed and
 -- that each had its first place there, and the measure is the entries that are left. Assumes nothing.
 use mathlib.Core.Path.{_≡_, sym, _∙_}
-use Prim.Native.Nat.{_-_, _<_}
+use Prim.Native.Nat.{_-_}
 use native.Mathlib.Omega.{arith}
 use borrow.Author.Count.{below-none, below-more}
 use borrow.Author.Needs.{needs}
@@ -19,11 +19,11 @@ use Rattle.entries.proofs.distinct_ok.Statement.{statement}
 use Rattle.entries.proofs.distinct_ok.Tie as tie
 
 abbrev Inv-loop : tie.InvT-loop
-Inv-loop entries m lefts₀ rights₀ heads₀ next₀ i₀ lefts rights heads next i =
+Inv-loop m entries lefts₀ rights₀ heads₀ next₀ i₀ lefts rights heads next i =
     Filling (λ t. t) (tableOf entries m) lefts₀ rights₀ next₀ lefts rights heads next i × Passed (ownPlace entries m) i
 
 abbrev μ-loop : tie.MeasureT-loop
-μ-loop entries m lefts₀ rights₀ heads₀ next₀ i₀ lefts rights heads next i = m - i
+μ-loop m entries lefts₀ rights₀ heads₀ next₀ i₀ lefts rights heads next i = m - i
 
 -- the start of a turn, from its call
 abbrev turn : tie.After-push Inv-loop μ-loop → tie.In-loop Inv-loop μ-loop

@@ -48,7 +48,8 @@ module _ (b : Book) (β : Bindings) (es : Table) where
     pub argument-failed : (j : ℕ) → j < length is → argumentAt j ≡ false → argumentsOk b β es is ls rs ≡ false
     argument-failed j l e = not-T-false _ (λ h. rw e at (has-argument _ _ _ (argument-facts b β es is ls rs h .argument j l)))
 
-    pub arguments-passed : (j : ℕ) → length is ≤ j → length is ≡ length ls → length is ≡ length rs → Passed argumentAt j → argumentsOk b β es is ls rs ≡ true
+    pub arguments-passed : (j : ℕ) → length is ≤ j → length is ≡ length ls → length is ≡ length rs → Passed argumentAt j
+        → argumentsOk b β es is ls rs ≡ true
     arguments-passed j l p q h =
         T-true _
         (facts-argument b β es is ls rs

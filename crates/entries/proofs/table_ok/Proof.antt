@@ -24,7 +24,10 @@ returns-2 c b β k =
 distinct-ok-requires : tie.Need-distinct-ok-requires
 distinct-ok-requires c κs =
     let s = c .before .before .before .before .before .before .before .before .before .before .before .before .before .before .before .before .before .before .before .before .before .before .before .before .before .before .before .before .pre in
-    let kept = c .before .before .before .before .before .before .before .before .before .before .before .before .before .same-as-ok .kept in (s .0 .known .held .named .entries-fit, room-kept (s .1) (kept .1 .1 .1 .0) (kept .1 .1 .1 .1 .0) (kept .1 .1 .1 .1 .1 .0) (kept .1 .1 .1 .1 .1 .1 .0))
+    let kept = c .before .before .before .before .before .before .before .before .before .before .before .before .before .same-as-ok .kept in (
+      s .0 .known .held .named .entries-fit,
+      room-kept (s .1) (kept .1 .1 .1 .0) (kept .1 .1 .1 .1 .0) (kept .1 .1 .1 .1 .1 .0) (kept .1 .1 .1 .1 .1 .1 .0),
+    )
 
 -- no kind and no same-as is wrong
 returns-3 : tie.Need-returns-3

@@ -84,7 +84,8 @@ module _ (f : ℕ → ℕ) (es : Table) where
 
   -- one more is pushed: the answer, and the pairs after it
   module _ {lefts rights heads next lefts′ rights′ heads′ next′ : List ℕ} {i a b r : ℕ} (there : i < length es)
-      (s : Filled f es lefts rights heads next i) (p : Pushed lefts rights lefts′ rights′ heads′ next′ i a b r) (l : a ≡ f (entry es i .left)) (h : b ≡ f (entry es i .right)) where
+      (s : Filled f es lefts rights heads next i) (p : Pushed lefts rights lefts′ rights′ heads′ next′ i a b r)
+      (l : a ≡ f (entry es i .left)) (h : b ≡ f (entry es i .right)) where
     pub filled-place : r ≡ placeBy f es i
     unfolding placeBy
     filled-place = p .place ∙ rw (l, h) (place-kept (s .kept) i _ _ (omega arith))
@@ -106,7 +107,8 @@ module _ (f : ℕ → ℕ) (es : Table) where
 
   -- the slices have room for one more
   module _ {lefts₀ rights₀ heads₀ next₀ lefts rights heads next : List ℕ} {i : ℕ}
-      (room : Room lefts₀ rights₀ heads₀ next₀ (length es)) (there : i < length es) (s : Filling f es lefts₀ rights₀ next₀ lefts rights heads next i) where
+      (room : Room lefts₀ rights₀ heads₀ next₀ (length es)) (there : i < length es)
+      (s : Filling f es lefts₀ rights₀ next₀ lefts rights heads next i) where
     pub push-room : (i < length lefts) × (i < length rights) × (i < length next)
     push-room = (
       omega (arith, room .lefts-fit, s .lefts-size),
@@ -115,7 +117,8 @@ module _ (f : ℕ → ℕ) (es : Table) where
     )
 
     pub filling-more : {lefts′ rights′ heads′ next′ : List ℕ} {a b r : ℕ} → Pushed lefts rights lefts′ rights′ heads′ next′ i a b r
-        → length next′ ≡ length next → a ≡ f (entry es i .left) → b ≡ f (entry es i .right) → Filling f es lefts₀ rights₀ next₀ lefts′ rights′ heads′ next′ (i + 1)
+        → length next′ ≡ length next → a ≡ f (entry es i .left) → b ≡ f (entry es i .right)
+        → Filling f es lefts₀ rights₀ next₀ lefts′ rights′ heads′ next′ (i + 1)
     filling-more p n l h =
         record {
           filled = filled-more there (s .filled) p l h (push-room .0) (push-room .1);

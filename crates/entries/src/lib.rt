@@ -89,7 +89,8 @@ fn kind_fits(
     requires known { ⌜ Given (λ b β. Held b β (now rows) (now names) (now entries) m × (l < length b) × (r < length b)) ⌝ }
     requires there { ⌜ i < m ⌝ }
     ensures { λ x. ⌜ Answers (λ b β. Held b β (now (rows .entry)) (now (names .entry)) (now (entries .entry)) m × (l < length b) × (r < length b))
-        (λ b β. kindOk b β (tableOf (now (entries .entry)) m) (entry (tableOf (now (entries .entry)) m) i .kind) (nodeOf (now (rows .entry)) l) (nodeOf (now (rows .entry)) r)) x ⌝ }
+        (λ b β. kindOk b β (tableOf (now (entries .entry)) m) (entry (tableOf (now (entries .entry)) m) i .kind)
+        (nodeOf (now (rows .entry)) l) (nodeOf (now (rows .entry)) r)) x ⌝ }
 {
     let kind = ENTRY_WORDS * i + 2;
     if !alike(rows, l, r) {
@@ -235,7 +236,8 @@ pub fn table_ok(
     requires known { ⌜ Given (λ b β. Known b β (now rows) (now roots) (now names) (now entries) m) ⌝ }
     requires room { ⌜ Room (now lefts) (now rights) (now heads) (now next) m ⌝ }
     ensures { λ x. ⌜ Answers (λ b β. Known b β (now (rows .entry)) (now (roots .entry)) (now (names .entry)) (now (entries .entry)) m)
-        (λ b β. all (valuesOk b β (tableOf (now (entries .entry)) m)) (tableOf (now (entries .entry)) m) && distinct (tableOf (now (entries .entry)) m)) x ⌝ }
+        (λ b β. all (valuesOk b β (tableOf (now (entries .entry)) m)) (tableOf (now (entries .entry)) m)
+        && distinct (tableOf (now (entries .entry)) m)) x ⌝ }
 {
     if !kinds_ok(rows, roots, names, entries, m) {
         return false;

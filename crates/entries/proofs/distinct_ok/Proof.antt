@@ -40,7 +40,8 @@ room c = rw length-tableOf (start c .pre .1)
 
 loop-holds : tie.Need-loop-holds Inv-loop μ-loop
 loop-holds c =
-    let s = c .before .before .before .before .before .before .before .before .before in (filling-none _ _ _ _ _ _ (c .before .before .clear .ensures) (s .pre .1 .words), below-none _)
+    let s = c .before .before .before .before .before .before .before .before .before in
+    (filling-none _ _ _ _ _ _ (c .before .before .clear .ensures) (s .pre .1 .words), below-none _)
 
 push-requires : tie.Need-push-requires Inv-loop μ-loop
 push-requires c κs =

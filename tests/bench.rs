@@ -5,7 +5,7 @@ mod fit;
 mod lean;
 mod reference;
 
-use reference::{Random, Term};
+use reference::{perform, Call, Random, Term, OFFICE};
 use std::hint::black_box;
 use std::time::Instant;
 
@@ -39,7 +39,7 @@ fn main() {
         let first = area.clone();
         let lean = best(|| lean::open::<false>(capacity, black_box(&book), black_box(&mut area)));
         assert_eq!(first, area);
-        let plain = best(|| reference::open(capacity, black_box(&book), black_box(&mut area)));
+        let plain = best(|| perform(OFFICE, Call::Open { capacity, book: black_box(&book) }, black_box(&mut area), &mut []).refusal);
         assert_eq!(first, area);
         show(&format!("opening at capacity {capacity}"), ours, lean, plain);
     }
@@ -57,7 +57,7 @@ fn main() {
     let lean = best(|| lean::copy(black_box(&book), black_box(&mut out)));
     assert_eq!(out, book);
     let plain = best(|| {
-        let bytes = reference::encode(&reference::decode(black_box(&book)).unwrap());
+        let bytes = reference::encode(&reference::decode(OFFICE, black_box(&book)).unwrap());
         black_box(&mut out).copy_from_slice(&bytes);
         0
     });

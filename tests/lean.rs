@@ -1,7 +1,7 @@
 //! Opening and copying a book in plain Rust as the proved code does it, on rows of words and with no allocation: what the
 //! proved code is measured against.
 
-use crate::reference::area_length;
+use crate::reference::OFFICE;
 
 const ROWS: usize = 10 * 1024;
 
@@ -78,7 +78,7 @@ fn store(area: &mut [u8], words: &[u32]) {
 }
 
 pub fn open<const LOOK_BACK: bool>(capacity: u32, book: &[u8], area: &mut [u8]) -> u32 {
-    let needed = area_length(capacity);
+    let needed = OFFICE.area_length(capacity);
     if needed == 0 {
         return 4;
     }

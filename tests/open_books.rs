@@ -4,7 +4,7 @@
 mod fit;
 mod reference;
 
-use reference::{Random, Term};
+use reference::{perform, Call, Random, Term, OFFICE};
 
 const CASES: u64 = 120_000;
 const FIRST_SEED: u64 = 0x5EED_0000_0000_0000;
@@ -52,7 +52,7 @@ fn random_capacity(random: &mut Random) -> u32 {
 /// Opening agrees in the answer and in every byte of the area.
 fn open_agrees(random: &mut Random, book: &[u8]) -> bool {
     let capacity = random_capacity(random);
-    let needed = reference::area_length(capacity);
+    let needed = OFFICE.area_length(capacity);
     let length = match random.below(16) {
         0 => needed.saturating_sub(1),
         1 => random.below(needed as u64 + 1) as usize,
@@ -63,13 +63,14 @@ fn open_agrees(random: &mut Random, book: &[u8]) -> bool {
     let mut ours = vec![filling; length];
     let mut theirs = vec![filling; length];
     let same_length = fit::area_length(capacity) == needed;
-    let same_answer = fit::open(capacity, book, &mut ours) == reference::open(capacity, book, &mut theirs);
+    let expected = perform(OFFICE, Call::Open { capacity, book }, &mut theirs, &mut []);
+    let same_answer = fit::open(capacity, book, &mut ours) == expected.refusal;
     same_length && same_answer && ours == theirs
 }
 
 /// Copying agrees in the answer, the count and every byte of the output.
 fn copy_agrees(random: &mut Random, book: &[u8]) -> bool {
-    let decoded = reference::decode(book);
+    let decoded = reference::decode(OFFICE, book);
     let length = match random.below(4) {
         0 => random.below(book.len() as u64 + 1) as usize,
         1 => book.len(),
@@ -103,7 +104,7 @@ fn main() {
         let seed = FIRST_SEED + case;
         let mut random = Random(seed);
         let book = random_bytes(&mut random);
-        accepted += u64::from(reference::decode(&book).is_ok());
+        accepted += u64::from(reference::decode(OFFICE, &book).is_ok());
         if !open_agrees(&mut random, &book) {
             println!("opening differs: seed {seed:#x}, book {book:02x?}");
             opening += 1;

@@ -1,0 +1,208 @@
+//! Sound areas to start from, made by the calls of the second implementation.
+
+// Each program uses a part.
+#![allow(dead_code)]
+
+use crate::reference::{book_over, encode, perform, random_book, Call, Random, Term, OFFICE};
+
+/// An area of the length that it needs, and how it came about: a book opened, then the accepted steps.
+pub struct Base {
+    pub book: Vec<u8>,
+    pub capacity: u32,
+    pub steps: Vec<Call<'static>>,
+    pub area: Vec<u8>,
+}
+
+impl Base {
+    fn opened(terms: &[Term], capacity: u32) -> Base {
+        let mut base = Base { book: encode(terms), capacity, steps: Vec::new(), area: vec![0; OFFICE.area_length(capacity)] };
+        let answer = perform(OFFICE, Call::Open { capacity, book: &base.book }, &mut base.area, &mut []);
+        assert_eq!(answer.refusal, 0, "a base that does not open");
+        base
+    }
+
+    /// Takes a step; a refused one leaves no trace.
+    fn step(&mut self, call: Call<'static>) {
+        match perform(OFFICE, call, &mut self.area, &mut []).refusal {
+            0 => self.steps.push(call),
+            refusal => assert_ne!(refusal, 7, "an accepted step left an unsound area"),
+        }
+    }
+}
+
+fn over(symbol: u32, arguments: &[u32]) -> Term {
+    Term::Application { symbol, arguments: arguments.to_vec() }
+}
+
+/// A term that passes the test where one is found soon, else any.
+fn likely(random: &mut Random, terms: &[Term], test: impl Fn(&Term) -> bool) -> u32 {
+    let tries: [usize; 4] = std::array::from_fn(|_| random.place(terms.len()));
+    tries.into_iter().find(|&t| test(&terms[t])).unwrap_or(tries[0]) as u32
+}
+
+fn symbol(term: &Term) -> Option<u32> {
+    match term {
+        Term::Variable => None,
+        Term::Application { symbol, .. } => Some(*symbol),
+    }
+}
+
+/// A line, often of two terms of one symbol, or a binding, mostly of a variable. The book is not empty.
+pub fn random_step(random: &mut Random, terms: &[Term]) -> Call<'static> {
+    let any = random.place(terms.len()) as u32;
+    match random.below(6) {
+        0..=1 => Call::Add { l: any, r: likely(random, terms, |term| symbol(term) == symbol(&terms[any as usize])) },
+        2..=3 => Call::Add { l: any, r: random.place(terms.len()) as u32 },
+        _ => Call::Bind { v: likely(random, terms, |term| *term == Term::Variable), t: any },
+    }
+}
+
+/// Few symbols with few arguments, so that many pairs are common and share values.
+pub fn narrow_book(random: &mut Random, count: usize) -> Vec<Term> {
+    let arities = random.pick(&[1, 2, 3, 3, 4, 9]);
+    let any = random.below(4096) as u32;
+    let mut signature = vec![(2, 0)];
+    for symbol in [0, any, 4095] {
+        if random.below(2) == 0 {
+            signature.push((symbol, random.below(arities) as u32));
+        }
+    }
+    book_over(random, &signature, count)
+}
+
+/// A small book, mostly at a small capacity, after some steps.
+pub fn small(random: &mut Random) -> Base {
+    let count = match random.below(8) {
+        0 => random.place(3),
+        1 => random.place(40),
+        2..=4 => 2 + random.place(5),
+        _ => 2 + random.place(12),
+    };
+    let terms = if random.below(8) == 0 { random_book(random, count) } else { narrow_book(random, count) };
+    let capacity = match random.below(32) {
+        0 => 2048,
+        1..=3 => 1 + random.below(200),
+        4..=7 => 1 + random.below(4),
+        _ => 4 + random.below(28),
+    } as u32;
+    let mut base = Base::opened(&terms, capacity);
+    if count > 0 {
+        for _ in 0..random.place(20) {
+            base.step(random_step(random, &terms));
+        }
+    }
+    base
+}
+
+/// 1,024 variables, each bound to the next, in rising or falling order; every look-up follows the whole chain.
+fn chain(rising: bool) -> Base {
+    let mut base = Base::opened(&vec![Term::Variable; 1024], 8);
+    for (l, r) in [(0, 0), (0, 1023), (5, 700), (1023, 0)] {
+        base.step(Call::Add { l, r });
+    }
+    for i in 0..1023 {
+        let v = if rising { i } else { 1022 - i };
+        base.step(Call::Bind { v, t: v + 1 });
+    }
+    base
+}
+
+/// A term 1,024 deep, against itself and against the one below it.
+fn deep() -> Base {
+    let terms: Vec<Term> = (0..1024).map(|t| if t == 0 { Term::Variable } else { over(7, &[t - 1]) }).collect();
+    let mut base = Base::opened(&terms, 2048);
+    base.step(Call::Add { l: 1023, r: 1022 });
+    base.step(Call::Add { l: 1023, r: 1023 });
+    base
+}
+
+/// A deep term against a variable that is bound in its depth later.
+fn deep_binding() -> Base {
+    let terms: Vec<Term> = (0..1024).map(|t| if t < 2 { Term::Variable } else { over(4095, &[(t - 1) & !1]) }).collect();
+    let mut base = Base::opened(&terms, 1024);
+    for call in [Call::Add { l: 1, r: 1023 }, Call::Bind { v: 1, t: 900 }, Call::Add { l: 1022, r: 1 }] {
+        base.step(call);
+    }
+    base
+}
+
+/// Variables bound to terms over variables bound in turn: values of 511 levels, as trees far too large to write out.
+fn ladder() -> Base {
+    let terms: Vec<Term> = (0..1024).map(|t| if t < 512 { Term::Variable } else { over(3, &[t - 512, t - 512]) }).collect();
+    let mut base = Base::opened(&terms, 1024);
+    base.step(Call::Add { l: 0, r: 1 });
+    for v in 0..511 {
+        base.step(Call::Bind { v, t: 513 + v });
+    }
+    base
+}
+
+/// 1,024 different constants, and holes for as many lines as there may be.
+fn constants() -> Base {
+    let terms: Vec<Term> = (0..1024).map(|symbol| over(symbol, &[])).collect();
+    let mut base = Base::opened(&terms, 300);
+    for i in 0..256 {
+        base.step(Call::Add { l: i, r: 1023 - i });
+    }
+    base
+}
+
+/// One line as often as there may be lines, or one less.
+fn many_lines(random: &mut Random, lines: usize) -> Base {
+    let mut base = Base::opened(&narrow_book(random, 6), 40);
+    for _ in 0..lines {
+        base.step(Call::Add { l: 5, r: random.below(2) as u32 });
+    }
+    base
+}
+
+/// Lines of rising terms, and some bindings between them, until the table is full or nearly so.
+fn filled(random: &mut Random, terms: &[Term], capacity: u32) -> Base {
+    let mut base = Base::opened(terms, capacity);
+    for i in 0..160 {
+        let lower = &terms[..2 + (terms.len() - 2) * i / 160];
+        base.step(random_step(random, lower));
+    }
+    base
+}
+
+/// A book over a constant, a symbol over one argument and one over two.
+fn pairing_book(random: &mut Random, count: usize) -> Vec<Term> {
+    book_over(random, &[(0, 0), (1, 1), (4095, 2), (300, 2)], count)
+}
+
+/// A table nearly full of lines of terms over eight arguments, then so many lines of one entry each, and bindings that join classes.
+fn dense(random: &mut Random, capacity: u32, singles: u32, bindings: u32) -> Base {
+    let mut terms: Vec<Term> = (0..128).map(|t| if t % 2 == 0 { Term::Variable } else { over(t, &[]) }).collect();
+    for _ in 0..96 {
+        let arguments: Vec<u32> = (0..8).map(|_| random.below(128) as u32).collect();
+        terms.push(over(4095, &arguments));
+    }
+    let mut base = Base::opened(&terms, capacity);
+    for _ in 0..250 {
+        base.step(Call::Add { l: 128 + random.below(96) as u32, r: 128 + random.below(96) as u32 });
+    }
+    for _ in 0..singles {
+        base.step(Call::Add { l: random.below(128) as u32, r: random.below(128) as u32 });
+    }
+    for _ in 0..bindings {
+        base.step(Call::Bind { v: 2 * random.below(64) as u32, t: random.below(128) as u32 });
+    }
+    base
+}
+
+/// Large books, long chains, deep terms, full tables and lists of lines.
+pub fn large(random: &mut Random) -> Vec<Base> {
+    let mut bases = vec![chain(true), chain(false), deep(), deep_binding(), ladder(), constants()];
+    bases.extend([255, 256].map(|lines| many_lines(random, lines)));
+    for (capacity, singles, bindings) in [(2048, 0, 0), (2048, 6, 0), (2048, 6, 40), (900, 0, 0), (900, 6, 40)] {
+        bases.push(dense(random, capacity, singles, bindings));
+    }
+    for (count, capacity) in [(1024, 2048), (1024, 1024), (1024, 60), (200, 2048), (60, 700)] {
+        for book in [narrow_book, pairing_book, random_book] {
+            let terms = book(random, count);
+            bases.push(filled(random, &terms, capacity));
+        }
+    }
+    bases
+}

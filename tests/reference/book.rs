@@ -1,0 +1,101 @@
+//! Books and their bytes.
+
+use super::area::Limits;
+
+#[derive(Clone, Debug, PartialEq)]
+pub enum Term {
+    Variable,
+    Application { symbol: u32, arguments: Vec<u32> },
+}
+
+pub const MAX_SYMBOL: u32 = 4095;
+pub const MAX_ARITY: u32 = 8;
+
+/// Bytes that are taken from the front.
+struct Source<'a> {
+    rest: &'a [u8],
+}
+
+impl Source<'_> {
+    /// One number in shortest form, or the refusal.
+    fn number(&mut self) -> Result<u32, u32> {
+        let mut value = 0;
+        for group in 0..3 {
+            let (&byte, tail) = self.rest.split_first().ok_or(1u32)?;
+            self.rest = tail;
+            value |= u32::from(byte & 0x7F) << (7 * group);
+            if byte & 0x80 == 0 {
+                let longer = group > 0 && byte == 0;
+                return if longer || value > 65_535 { Err(2) } else { Ok(value) };
+            }
+        }
+        Err(2)
+    }
+}
+
+/// The refusal, unless the test holds.
+pub fn check(holds: bool, refusal: u32) -> Result<(), u32> {
+    if holds {
+        Ok(())
+    } else {
+        Err(refusal)
+    }
+}
+
+/// The terms of a book, or the refusal.
+pub fn decode(limits: Limits, bytes: &[u8]) -> Result<Vec<Term>, u32> {
+    let mut source = Source { rest: bytes };
+    let count = source.number()? as usize;
+    check(count <= limits.terms, 4)?;
+    let mut arities = [None; MAX_SYMBOL as usize + 1];
+    let mut terms = Vec::with_capacity(count);
+    for own in 0..count as u32 {
+        let first = source.number()?;
+        if first == 0 {
+            terms.push(Term::Variable);
+            continue;
+        }
+        let symbol = first - 1;
+        check(symbol <= MAX_SYMBOL, 4)?;
+        let arity = source.number()?;
+        check(arity <= MAX_ARITY, 4)?;
+        check(*arities[symbol as usize].get_or_insert(arity) == arity, 6)?;
+        let mut arguments = Vec::new();
+        for _ in 0..arity {
+            let argument = source.number()?;
+            check(argument < own, 5)?;
+            arguments.push(argument);
+        }
+        terms.push(Term::Application { symbol, arguments });
+    }
+    check(source.rest.is_empty(), 3)?;
+    Ok(terms)
+}
+
+/// Appends one number in shortest form.
+pub fn push_number(out: &mut Vec<u8>, mut n: u32) {
+    while n > 0x7F {
+        out.push((n & 0x7F) as u8 | 0x80);
+        n >>= 7;
+    }
+    out.push(n as u8);
+}
+
+/// The bytes of a book.
+pub fn encode(terms: &[Term]) -> Vec<u8> {
+    let mut out = Vec::new();
+    push_number(&mut out, terms.len() as u32);
+    for term in terms {
+        match term {
+            Term::Variable => push_number(&mut out, 0),
+            Term::Application { symbol, arguments } => {
+                push_number(&mut out, symbol + 1);
+                push_number(&mut out, arguments.len() as u32);
+                for &argument in arguments {
+                    push_number(&mut out, argument);
+                }
+            }
+        }
+    }
+    out
+}

@@ -1,0 +1,58 @@
+//! Repeatable random numbers, and random books.
+
+use super::book::Term;
+use std::collections::HashMap;
+
+/// A repeatable source of numbers (SplitMix64).
+pub struct Random(pub u64);
+
+impl Random {
+    pub fn next(&mut self) -> u64 {
+        self.0 = self.0.wrapping_add(0x9E37_79B9_7F4A_7C15);
+        let mut z = self.0;
+        z = (z ^ (z >> 30)).wrapping_mul(0xBF58_476D_1CE4_E5B9);
+        z = (z ^ (z >> 27)).wrapping_mul(0x94D0_49BB_1331_11EB);
+        z ^ (z >> 31)
+    }
+
+    /// A number below n, which is not 0.
+    pub fn below(&mut self, n: u64) -> u64 {
+        self.next() % n
+    }
+
+    /// A place of a list that is not empty.
+    pub fn place(&mut self, length: usize) -> usize {
+        self.below(length as u64) as usize
+    }
+
+    /// An item of a list that is not empty.
+    pub fn pick<T: Copy>(&mut self, items: &[T]) -> T {
+        items[self.place(items.len())]
+    }
+}
+
+/// A valid book of `count` terms over a random choice of symbols.
+pub fn random_book(random: &mut Random, count: usize) -> Vec<Term> {
+    let symbols = 1 + random.below(40);
+    let signature: Vec<(u32, u32)> =
+        (0..symbols).map(|_| (random.below(4096) as u32, random.below(9) as u32)).collect();
+    book_over(random, &signature, count)
+}
+
+/// A valid book of `count` terms over these symbols with these arities; for a symbol that is named twice the last counts.
+pub fn book_over(random: &mut Random, signature: &[(u32, u32)], count: usize) -> Vec<Term> {
+    let arities: HashMap<u32, u32> = signature.iter().copied().collect();
+    let mut choices: Vec<(u32, u32)> = arities.into_iter().collect();
+    choices.sort_unstable();
+    let mut terms = Vec::with_capacity(count);
+    for own in 0..count as u64 {
+        let (symbol, arity) = random.pick(&choices);
+        if random.below(4) == 0 || (own == 0 && arity > 0) {
+            terms.push(Term::Variable);
+        } else {
+            let arguments = (0..arity).map(|_| random.below(own) as u32).collect();
+            terms.push(Term::Application { symbol, arguments });
+        }
+    }
+    terms
+}

@@ -69,11 +69,12 @@ impl Twins {
         self.theirs.clone_from(&self.ours);
     }
 
+    /// Damages both in the same way, or cuts them a little.
     fn alter(&mut self, random: &mut Random) {
-        if random.below(2) == 0 {
-            damage::alter(random, &mut self.theirs);
-        } else {
-            damage::edit(random, &mut self.theirs);
+        match random.below(5) {
+            0..=1 => damage::alter(random, &mut self.theirs),
+            2..=3 => damage::edit(random, &mut self.theirs),
+            _ => self.theirs.truncate(self.theirs.len().saturating_sub(random.place(12))),
         }
         self.ours.clone_from(&self.theirs);
     }

@@ -1,0 +1,113 @@
+/* Measures the stack that each call needs: the call runs on a stack of its own that was filled with a pattern, and what it
+   overwrote is counted. The area is the one with the deepest walk: each variable is bound to a term of eight arguments, of
+   which the last is the next variable. By hand: `tests/run stack`. */
+#include "fit.h"
+#include <pthread.h>
+#include <stdio.h>
+#include <stdlib.h>
+#include <string.h>
+
+#define TERMS 1024u
+#define CAPACITY 2048u
+#define STACK (4u << 20)
+#define PATTERN 0xA5
+
+static uint8_t book[3 * (2 + 10 * TERMS)], *area, out[65536];
+static size_t book_length, area_length;
+static uint32_t refusal, written, fields[14];
+
+static void number(uint32_t n)
+{
+    while (n > 127) {
+        book[book_length++] = (uint8_t)(n % 128 + 128);
+        n /= 128;
+    }
+    book[book_length++] = (uint8_t)n;
+}
+
+/* Terms 0, 2, 4, .. are variables; term 1 is a constant; terms 3, 5, .. have seven times term 1 and the variable before them. */
+static void make_book(void)
+{
+    number(TERMS);
+    for (uint32_t t = 0; t < TERMS; t++) {
+        if (t % 2 == 0) {
+            number(0);
+        } else if (t == 1) {
+            number(1), number(0);
+        } else {
+            number(2), number(8);
+            for (int a = 0; a < 7; a++)
+                number(1);
+            number(t - 1);
+        }
+    }
+}
+
+static void put_word(size_t i, uint32_t w)
+{
+    for (int k = 0; k < 4; k++)
+        area[4 * i + (size_t)k] = (uint8_t)(w >> (8 * k));
+}
+
+/* Variable t is bound to term t + 3 (docs/LAYOUT.md: the word of a binding is the term plus 1). */
+static void bind_all(void)
+{
+    for (uint32_t t = 0; t + 3 < TERMS; t += 2)
+        put_word(10244 + t, t + 4);
+}
+
+static void run_open(void) { refusal = fit_open(CAPACITY, book, book_length, area, area_length); }
+static void run_copy(void) { refusal = fit_copy_book(book, book_length, out, sizeof out, &written); }
+static void run_entry(void) { refusal = fit_entry(area, area_length, 0, fields); }
+static void run_write(void) { refusal = fit_write(area, area_length, out, sizeof out, &written); }
+static void run_nothing(void) { refusal = 0; }
+
+static void *on_own_stack(void *call)
+{
+    ((void (*)(void))call)();
+    return NULL;
+}
+
+/* The bytes of a fresh stack that the call overwrote. */
+static size_t used(void (*call)(void))
+{
+    uint8_t *stack = NULL;
+    if (posix_memalign((void **)&stack, 4096, STACK))
+        exit(1);
+    memset(stack, PATTERN, STACK);
+    pthread_attr_t attr;
+    pthread_t thread;
+    pthread_attr_init(&attr);
+    if (pthread_attr_setstack(&attr, stack, STACK) || pthread_create(&thread, &attr, on_own_stack, (void *)call))
+        exit(1);
+    pthread_join(thread, NULL);
+    size_t untouched = 0;
+    while (untouched < STACK && stack[untouched] == PATTERN)
+        untouched++;
+    free(stack);
+    return STACK - untouched;
+}
+
+static int failed;
+
+static void measure(const char *name, void (*call)(void), size_t base, uint32_t expected)
+{
+    size_t n = used(call);
+    printf("%s: %zu bytes of stack, answer %u\n", name, n - base, refusal);
+    failed |= refusal != expected;
+}
+
+int main(void)
+{
+    area_length = fit_area_length(CAPACITY);
+    area = calloc(area_length, 1);
+    make_book();
+    size_t base = used(run_nothing);
+    measure("fit_open", run_open, base, 0);
+    measure("fit_copy_book", run_copy, base, 0);
+    bind_all();
+    measure("fit_entry", run_entry, base, 8);
+    measure("fit_write", run_write, base, 0);
+    free(area);
+    return failed;
+}

@@ -9,7 +9,7 @@ use lib.Seq.{length-take-le, take-at, take-all, drop-drop}
 use Rattle.leb128.specs.Number.{maxGroups, maxNumber, write, writeWithin}
 use Rattle.leb128.proofs.Writing.{all-written}
 use Rattle.theory.proofs.Lists.Rows.{drop-behind}
-use Rattle.book.specs.Encoding.{overAt}
+use Rattle.runs.specs.Runs.{overAt}
 
 module _ (out : List ℕ) where
   -- no bytes change nothing
@@ -71,25 +71,31 @@ laid-front out bytes end next laid =
     let count : next ≡ length bytes = omega arith in
     (count, laid .1 ∙ rw count (over-front out bytes))
 
--- a number written at the front of what lies from `at` on, said of the whole
-module _ (out : List ℕ) (at n : ℕ) (small : n ≤ maxNumber) (room : at + length (write maxGroups n) ≤ length out) where
+-- what lies from `at` on is lent, and bytes are written to its front: said of the whole
+module _ (out : List ℕ) (at : ℕ) where
   -- the part that is lent
-  abbrev part : List ℕ
-  part = take (length out - at) (drop at out)
+  abbrev pub tail : List ℕ
+  tail = take (length out - at) (drop at out)
 
-  part-all : part ≡ drop at out
-  part-all = take-all (length out - at) (drop at out) (rw length-drop (omega arith))
+  pub tail-all : tail ≡ drop at out
+  tail-all = take-all (length out - at) (drop at out) (rw length-drop (omega arith))
 
-  -- it has room for the number
-  written : writeWithin maxGroups maxNumber (length part) n ≡ write maxGroups n
-  written = all-written (length part) n small (write maxGroups n) refl (rw (part-all, length-drop) (omega arith))
+  pub tail-length : length tail ≡ length out - at
+  tail-length = rw (tail-all, length-drop)
 
-  pub put-part : (r : ℕ) (last : List ℕ) → r ≡ length (writeWithin maxGroups maxNumber (length part) n)
-      → last ≡ writeWithin maxGroups maxNumber (length part) n ++ drop r part
-      → (at + r ≡ at + length (write maxGroups n)) × (take at out ++ (last ++ drop (length out - at) (drop at out)) ≡ overAt out at (write maxGroups n))
+  pub tail-laid : (bytes last : List ℕ) (r : ℕ) → r ≡ length bytes → last ≡ bytes ++ drop r tail
+      → Laid out at bytes (take at out ++ (last ++ drop (length out - at) (drop at out))) (at + r)
   unfolding overAt
-  put-part r last e f =
-      let count : r ≡ length (write maxGroups n) = rw written at e in
-      let bytes : last ≡ write maxGroups n ++ drop r part = rw written at f in
+  tail-laid bytes last r e f =
       let none : drop (length out - at) (drop at out) ≡ [] = drop-of-length-le (drop at out) {i = length out - at} (rw length-drop (omega arith)) in
-      (ap (λ (k : ℕ). at + k) count, rw (none, append-nil, bytes, part-all, drop-drop, count))
+      (ap (λ (k : ℕ). at + k) e, rw (none, append-nil, f, tail-all, drop-drop, e))
+
+-- so it is for a number, where there is room for it
+pub number-laid : (out : List ℕ) (at n : ℕ) → n ≤ maxNumber → at + length (write maxGroups n) ≤ length out
+    → (r : ℕ) (last : List ℕ) → r ≡ length (writeWithin maxGroups maxNumber (length (tail out at)) n)
+    → last ≡ writeWithin maxGroups maxNumber (length (tail out at)) n ++ drop r (tail out at)
+    → Laid out at (write maxGroups n) (take at out ++ (last ++ drop (length out - at) (drop at out))) (at + r)
+number-laid out at n small room r last e f =
+    let written : writeWithin maxGroups maxNumber (length (tail out at)) n ≡ write maxGroups n =
+        all-written (length (tail out at)) n small (write maxGroups n) refl (rw (tail-length out at) (omega arith)) in
+    tail-laid out at (write maxGroups n) last r (rw written at e) (rw written at f)

@@ -1,0 +1,5 @@
+pub mod Marks
+pub mod Meeting
+pub mod Rows
+pub mod Items
+pub mod Whole

@@ -1,0 +1,60 @@
+-- What a row of a table holds: its class and its arguments. Assumes nothing.
+use mathlib.Core.Path.{_≡_, refl, sym, ap, _∙_}
+use mathlib.Core.List.{List, [], map}
+use Prim.Native.Nat.{ℕ, _+_, _*_, _-_, _<_}
+use native.Mathlib.Omega.{arith}
+use borrow.Author.Tests.{eq-eqb, ne-eqb}
+use lib.ListN.{take, drop}
+use Rattle.model.specs.Table.{Entry, entry}
+use Rattle.model.specs.Area.{entryRowWords}
+use Rattle.model.specs.Report.{kindArguments, class, argumentClasses}
+use Rattle.layout.specs.Rows.{at, kindOf, loadedEntry, tableOf}
+use Rattle.layout.proofs.Rows.{getD-tableOf}
+use Rattle.numbering.specs.Numbering.{Entries, Closed}
+
+-- the class of a row is its last word
+pub row-class : (entries : List ℕ) (i : ℕ) → at entries (entryRowWords * i + entryRowWords - 1) ≡ loadedEntry entries i .sameAs
+unfolding loadedEntry
+row-class entries i = refl
+
+module _ (entries : List ℕ) (i : ℕ) where
+  -- a hole has no arguments
+  pub hole-arguments : at entries (entryRowWords * i + 2) ≡ 0 → kindArguments (loadedEntry entries i .kind) ≡ []
+  unfolding loadedEntry kindOf kindArguments
+  hole-arguments e = rw (eq-eqb (at entries (entryRowWords * i + 2)) 0 e)
+
+  -- any other row has as many as its count says
+  pub common-arguments : (at entries (entryRowWords * i + 2) ≡ 0 → ⊥)
+      → kindArguments (loadedEntry entries i .kind) ≡ take (at entries (entryRowWords * i + 4)) (drop (entryRowWords * i + 5) entries)
+  unfolding loadedEntry kindOf kindArguments
+  common-arguments h =
+      let row : ℕ = entryRowWords * i in
+      let e : row + 2 + 2 ≡ row + 4 = omega arith in
+      let f : row + 2 + 3 ≡ row + 5 = omega arith in
+      rw (ne-eqb (at entries (row + 2)) 0 h, e, f)
+
+  -- entry i of a table
+  module _ (m : ℕ) (l : i < m) where
+    pub class-row : class (tableOf entries m) i ≡ loadedEntry entries i .sameAs
+    unfolding class
+    class-row = ap (λ (e : Entry). e .sameAs) (getD-tableOf entries m i l)
+
+    arguments-row : kindArguments (entry (tableOf entries m) i .kind) ≡ kindArguments (loadedEntry entries i .kind)
+    arguments-row = ap (λ (e : Entry). kindArguments (e .kind)) (getD-tableOf entries m i l)
+
+    -- its arguments, as the n words that are lent
+    module _ (n : ℕ) (are : kindArguments (loadedEntry entries i .kind) ≡ take n (drop (entryRowWords * i + 5) entries)) where
+      abbrev pub lent : List ℕ
+      lent = take (entryRowWords * i + 5 + n - (entryRowWords * i + 5)) (drop (entryRowWords * i + 5) entries)
+
+      pub lent-arguments : lent ≡ kindArguments (entry (tableOf entries m) i .kind)
+      lent-arguments =
+          let count : entryRowWords * i + 5 + n - (entryRowWords * i + 5) ≡ n = omega arith in
+          rw count (sym are ∙ sym arguments-row)
+
+      pub lent-entries : Closed entries m → Entries m lent
+      lent-entries closed = rw lent-arguments (closed .arguments i l)
+
+      pub lent-classes : map (class (tableOf entries m)) lent ≡ argumentClasses (tableOf entries m) i
+      unfolding argumentClasses
+      lent-classes = rw lent-arguments

@@ -1,13 +1,14 @@
 -- The classes of a list of entries, met one after the other. Assumes nothing.
 use mathlib.Core.Path.{_≡_, refl, sym, subst, _∙_}
 use mathlib.Core.List.{List, _∷_, [], map}
-use Prim.Native.Nat.{ℕ, _+_, _≤_, _<_}
+use Prim.Native.Nat.{ℕ, _+_, _*_, _≤_, _<_}
 use native.Mathlib.Omega.{arith}
 use lib.ListN.{length, take}
 use lib.Seq.{take-all}
+use Rattle.model.specs.Area.{entryRowWords}
 use Rattle.model.specs.Report.{class}
 use Rattle.layout.specs.Rows.{at, loadedEntry, tableOf}
-use Rattle.numbering.specs.Numbering.{Entries, EntryFits, Closed, Counted, MetAll}
+use Rattle.numbering.specs.Numbering.{Entries, Closed, Counted, MetAll}
 use Rattle.numbering.proofs.Meeting.{meet-none, meet-more, map-more}
 use Rattle.numbering.proofs.Rows.{class-row}
 
@@ -25,8 +26,8 @@ module _ {entries : List ℕ} {m : ℕ} {items met₀ numbers₀ : List ℕ} {n�
   module _ (ok : Closed entries m × Entries m items) {met numbers : List ℕ} {n j : ℕ} (h : ItemsMet entries m items met₀ numbers₀ n₀ met numbers n j) where
     module _ (l : j < length items) where
       -- the next entry has a row
-      pub item-row : EntryFits entries (at items j)
-      item-row = ok .0 .row (at items j) (ok .1 j l)
+      pub item-row : entryRowWords * at items j + entryRowWords ≤ length entries
+      item-row = ok .0 .row (at items j) (ok .1 j l) .within
 
       module _ (x : ℕ) (e : x ≡ loadedEntry entries (at items j) .sameAs) where
         is-class : x ≡ class (tableOf entries m) (at items j)

@@ -1,16 +1,17 @@
 -- What a row of a table holds: its class and its arguments. Assumes nothing.
 use mathlib.Core.Path.{_≡_, refl, sym, ap, _∙_}
 use mathlib.Core.List.{List, [], map}
-use Prim.Native.Nat.{ℕ, _+_, _*_, _-_, _<_}
+use Prim.Native.Nat.{ℕ, _+_, _*_, _-_, _≤_, _<_}
 use native.Mathlib.Omega.{arith}
 use borrow.Author.Tests.{eq-eqb, ne-eqb}
-use lib.ListN.{take, drop}
+use lib.ListN.{take, drop, length-take, length-drop}
+use Rattle.model.specs.Limits.{maxArity}
 use Rattle.model.specs.Table.{Entry, entry}
 use Rattle.model.specs.Area.{entryRowWords}
 use Rattle.model.specs.Report.{kindArguments, class, argumentClasses}
 use Rattle.layout.specs.Rows.{at, kindOf, loadedEntry, tableOf}
 use Rattle.layout.proofs.Rows.{getD-tableOf}
-use Rattle.numbering.specs.Numbering.{Entries, Closed}
+use Rattle.numbering.specs.Numbering.{Entries, EntryFits, Closed}
 
 -- the class of a row is its last word
 pub row-class : (entries : List ℕ) (i : ℕ) → at entries (entryRowWords * i + entryRowWords - 1) ≡ loadedEntry entries i .sameAs
@@ -32,6 +33,13 @@ module _ (entries : List ℕ) (i : ℕ) where
       let e : row + 2 + 2 ≡ row + 4 = omega arith in
       let f : row + 2 + 3 ≡ row + 5 = omega arith in
       rw (ne-eqb (at entries (row + 2)) 0 h, e, f)
+
+  -- that is at most maxArity
+  pub few-arguments : EntryFits entries i → (at entries (entryRowWords * i + 2) ≡ 0 → ⊥) → at entries (entryRowWords * i + 4) ≤ maxArity
+  few-arguments fits h =
+      let n : ℕ = at entries (entryRowWords * i + 4) in
+      let few = rw (common-arguments h, length-take n (drop (entryRowWords * i + 5) entries), length-drop) at (fits .few) in
+      omega (arith, few, fits .within)
 
   -- entry i of a table
   module _ (m : ℕ) (l : i < m) where

@@ -3,7 +3,7 @@
 use mathlib.Core.Path.{_≡_}
 use mathlib.Core.List.{List}
 use mathlib.Core.Bool.{cond}
-use Prim.Native.Nat.{ℕ, suc, _+_, _*_, _≤_, _<_}
+use Prim.Native.Nat.{ℕ, suc, _+_, _*_, _-_, _≤_, _<_}
 use lib.ListN.{length, take}
 use lib.Dec.{eqb, ltb}
 use Rattle.model.specs.Limits.{maxArity}
@@ -12,7 +12,7 @@ use Rattle.model.specs.Table.{Table, entry}
 use Rattle.model.specs.Area.{entryRowWords}
 use Rattle.model.specs.Report.{kindArguments, class, meetAll, order}
 use Rattle.theory.specs.Numbering.{Met}
-use Rattle.layout.specs.Rows.{at, tableOf}
+use Rattle.layout.specs.Rows.{at, loadedEntry, tableOf}
 
 -- The numbers of a list are entries of a table of m.
 abbrev pub Entries : ℕ → List ℕ → Type 0
@@ -21,7 +21,7 @@ Entries m xs = (j : ℕ) → j < length xs → at xs j < m
 -- Row i lies in the rows, and has at most maxArity arguments.
 pub record EntryFits (entries : List ℕ) (i : ℕ) : Type 0 where
   pub within : entryRowWords * i + entryRowWords ≤ length entries
-  pub few : at entries (entryRowWords * i + 4) ≤ maxArity
+  pub few : length (kindArguments (loadedEntry entries i .kind)) ≤ maxArity
 
 -- m rows hold a table whose arguments and classes are entries of it.
 pub record Closed (entries : List ℕ) (m : ℕ) : Type 0 where
@@ -32,6 +32,16 @@ pub record Closed (entries : List ℕ) (m : ℕ) : Type 0 where
 -- What a list keeps of class x: its new number plus 1, or 0 where it was not met.
 unfoldable pub mark : List ℕ → ℕ → ℕ
 mark met x = let n = first (eqb x) met in cond (ltb n (length met)) (suc n) 0
+
+-- The new number of entry i, where `numbers` has the marks.
+abbrev pub newNumber : List ℕ → List ℕ → ℕ → ℕ
+newNumber entries numbers i = at numbers (loadedEntry entries i .sameAs) - 1
+
+-- Row i lies in the rows, and its class has a mark.
+pub record Marked (entries numbers : List ℕ) (i : ℕ) : Type 0 where
+  pub within : entryRowWords * i + entryRowWords ≤ length entries
+  pub class-fits : loadedEntry entries i .sameAs < length numbers
+  pub marked : 1 ≤ at numbers (loadedEntry entries i .sameAs)
 
 -- The slices have room for m classes, whose numbers are words.
 pub record Room (m : ℕ) (met numbers : List ℕ) : Type 0 where

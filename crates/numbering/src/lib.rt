@@ -3,18 +3,19 @@
 
 ghost use mathlib.Core.Path.{_≡_};
 ghost use mathlib.Core.List.{[], _∷_, map};
-ghost use Prim.Native.Nat.{_+_, _*_, _≤_, _<_};
-ghost use lib.ListN.{length, take, drop};
+ghost use Prim.Native.Nat.{ℕ, _+_, _*_, _≤_, _<_};
+ghost use lib.ListN.{length, getD, take, drop};
 ghost use Rattle.model.specs.Limits.{maxArity};
 ghost use Rattle.model.specs.Area.{entryRowWords};
 ghost use Rattle.model.specs.Report.{kindArguments, class, argumentClasses};
 ghost use Rattle.layout.specs.Rows.{loadedEntry, tableOf};
-ghost use Rattle.numbering.specs.Numbering.{Entries, EntryFits, Closed, Room, Counted, MetAll, Numbered};
+ghost use Rattle.runs.specs.Runs.{overAt};
+ghost use Rattle.numbering.specs.Numbering.{Entries, EntryFits, Closed, Marked, newNumber, Room, Counted, MetAll, Numbered};
 use layout::ENTRY_WORDS;
 
 // The class of the entry in row `i`.
 pub fn class_of(entries: &[u32], i: usize) -> u32
-    requires { ⌜ EntryFits (now entries) i ⌝ }
+    requires { ⌜ entryRowWords * i + entryRowWords ≤ length (now entries) ⌝ }
     ensures { λ r. ⌜ r ≡ loadedEntry (now (entries .entry)) i .sameAs ⌝ }
 {
     entries[ENTRY_WORDS * i + ENTRY_WORDS - 1]
@@ -91,6 +92,22 @@ fn meet_arguments(
     let first = ENTRY_WORDS * i + 5;
     let end = first + argument_count(entries, i);
     meet_all(entries, m, &entries[first..end], met, numbers, count)
+}
+
+// The new numbers of the entries `items`, by the marks, into `out` from place `at` on.
+pub fn renumber(entries: &[u32], items: &[u32], numbers: &[u32], out: &mut [u32], at: usize)
+    requires { ⌜ ((j : ℕ) → j < length (now items) → Marked (now entries) (now numbers) (getD (now items) j 0)) ⌝ }
+    requires { ⌜ at + length (now items) ≤ length (now out) ⌝ }
+    ensures { λ _. ⌜ now (out .exit) ≡ overAt (now (out .entry)) at (map (newNumber (now (entries .entry)) (now (numbers .entry))) (now (items .entry))) ⌝ }
+{
+    let mut next = at;
+    let mut j = 0;
+    while j < items.len() {
+        let x = class_of(entries, items[j] as usize) as usize;
+        out[next] = numbers[x] - 1;
+        next += 1;
+        j += 1;
+    }
 }
 
 // Numbers the classes of the `m` entries that the lines lead to: the lines' own first, then those of the arguments of what is

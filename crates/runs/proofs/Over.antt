@@ -1,11 +1,12 @@
 -- Bytes laid over a list: nothing, more behind, the length, at the front, and a number that is written. Assumes nothing.
 use mathlib.Core.Path.{_≡_, refl, sym, ap, _∙_}
-use mathlib.Core.List.{List, [], _++_, append-assoc, append-nil}
-use Prim.Native.Nat.{ℕ, _+_, _-_, _≤_}
+use mathlib.Core.List.{List, [], _∷_, _++_, append-assoc, append-nil}
+use Prim.Native.Nat.{ℕ, _+_, _-_, _≤_, _<_}
 use native.Mathlib.Nat.{add-zero, zero-add, add-assoc}
+use native.Mathlib.Numerals.{add-one}
 use native.Mathlib.Omega.{arith}
-use lib.ListN.{length, take, drop, length-append, length-drop, take-append-drop, drop-of-length-le}
-use lib.Seq.{length-take-le, take-at, take-all, drop-drop}
+use lib.ListN.{length, take, drop, set, length-append, length-drop, take-append-drop, drop-of-length-le}
+use lib.Seq.{length-take-le, take-at, take-all, drop-drop, set-split}
 use Rattle.leb128.specs.Number.{maxGroups, maxNumber, write, writeWithin}
 use Rattle.leb128.proofs.Writing.{all-written}
 use Rattle.theory.proofs.Lists.Rows.{drop-behind}
@@ -46,6 +47,11 @@ module _ (out : List ℕ) where
         )
         (simp append-assoc)
 
+-- a store is one number laid
+set-over : (out : List ℕ) (at x : ℕ) → at < length out → set out at x ≡ overAt out at (x ∷ [])
+unfolding overAt
+set-over out at x h = set-split out at x h ∙ rw add-one
+
 -- the bytes laid over `out` from `at` on give `end`, and `next` is the place behind them
 abbrev pub Laid : List ℕ → ℕ → List ℕ → List ℕ → ℕ → Type 0
 Laid out at bytes end next = (next ≡ at + length bytes) × (end ≡ overAt out at bytes)
@@ -64,6 +70,10 @@ module _ (out : List ℕ) (at : ℕ) where
     pub laid-more : (ys end′ : List ℕ) (next′ : ℕ) → Laid end next ys end′ next′ → Laid out at (xs ++ ys) end′ next′
     laid-more ys end′ next′ h =
         (rw length-append (omega arith), h .1 ∙ rw (laid .1, laid .0) (over-more out at xs room ys))
+
+    -- one more, by a store
+    pub laid-set : next < length out → (x : ℕ) → Laid out at (xs ++ x ∷ []) (set end next x) (next + 1)
+    laid-set l x = laid-more (x ∷ []) (set end next x) (next + 1) (refl, set-over end next x (omega (arith, laid-length)))
 
 -- bytes laid at the front
 pub laid-front : (out bytes end : List ℕ) (next : ℕ) → Laid out 0 bytes end next → (next ≡ length bytes) × (end ≡ bytes ++ drop next out)

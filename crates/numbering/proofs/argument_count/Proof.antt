@@ -1,7 +1,7 @@
 -- `numbering::argument_count` meets its contract: a hole has no arguments, any other row as many as its count says. Assumes
 -- nothing.
 use native.Mathlib.Omega.{arith}
-use Rattle.numbering.proofs.Rows.{hole-arguments, common-arguments}
+use Rattle.numbering.proofs.Rows.{hole-arguments, common-arguments, few-arguments}
 use borrow.Author.Needs.{needs}
 use Rattle.numbering.proofs.argument_count.Statement.{statement}
 use Rattle.numbering.proofs.argument_count.Tie as tie
@@ -31,10 +31,10 @@ shared-slice-read-result : tie.Need-shared-slice-read-result
 shared-slice-read-result c = search needs
 
 cast-result : tie.Need-cast-result
-cast-result c = search needs
+cast-result c = omega (arith, few-arguments _ _ (c .before .before .before .pre) (c .before .if1 .left))
 
 returns-2 : tie.Need-returns-2
-returns-2 c = (c .before .before .before .pre .few, common-arguments _ _ (c .before .if1 .left))
+returns-2 c = (few-arguments _ _ (c .before .before .before .pre) (c .before .if1 .left), common-arguments _ _ (c .before .if1 .left))
 
 pub argument-count-spec : {M : Type 1} → statement M
 argument-count-spec =

@@ -4,7 +4,8 @@ use mathlib.Core.List.{List, [], map}
 use Prim.Native.Nat.{ℕ, _+_, _*_, _-_, _≤_, _<_}
 use native.Mathlib.Omega.{arith}
 use borrow.Author.Tests.{eq-eqb, ne-eqb}
-use lib.ListN.{take, drop, length-take, length-drop}
+use lib.ListN.{length, take, drop, length-take, length-drop}
+use lib.Seq.{length-take-le}
 use Rattle.model.specs.Limits.{maxArity}
 use Rattle.model.specs.Table.{Entry, entry}
 use Rattle.model.specs.Area.{entryRowWords}
@@ -41,24 +42,25 @@ module _ (entries : List ℕ) (i : ℕ) where
       let few = rw (common-arguments h, length-take n (drop (entryRowWords * i + 5) entries), length-drop) at (fits .few) in
       omega (arith, few, fits .within)
 
-  -- entry i of a table
-  module _ (m : ℕ) (l : i < m) where
-    pub class-row : class (tableOf entries m) i ≡ loadedEntry entries i .sameAs
-    unfolding class
-    class-row = ap (λ (e : Entry). e .sameAs) (getD-tableOf entries m i l)
+  -- the arguments, as the n words that are lent
+  module _ (n : ℕ) (are : kindArguments (loadedEntry entries i .kind) ≡ take n (drop (entryRowWords * i + 5) entries)) where
+    abbrev pub lent : List ℕ
+    lent = take (entryRowWords * i + 5 + n - (entryRowWords * i + 5)) (drop (entryRowWords * i + 5) entries)
 
-    arguments-row : kindArguments (entry (tableOf entries m) i .kind) ≡ kindArguments (loadedEntry entries i .kind)
-    arguments-row = ap (λ (e : Entry). kindArguments (e .kind)) (getD-tableOf entries m i l)
+    pub lent-words : lent ≡ kindArguments (loadedEntry entries i .kind)
+    lent-words =
+        let count : entryRowWords * i + 5 + n - (entryRowWords * i + 5) ≡ n = omega arith in
+        rw count (sym are)
 
-    -- its arguments, as the n words that are lent
-    module _ (n : ℕ) (are : kindArguments (loadedEntry entries i .kind) ≡ take n (drop (entryRowWords * i + 5) entries)) where
-      abbrev pub lent : List ℕ
-      lent = take (entryRowWords * i + 5 + n - (entryRowWords * i + 5)) (drop (entryRowWords * i + 5) entries)
+    pub lent-length : EntryFits entries i → n ≤ maxArity → length lent ≡ n
+    lent-length fits few =
+        let count : entryRowWords * i + 5 + n - (entryRowWords * i + 5) ≡ n = omega arith in
+        rw count (length-take-le n (drop (entryRowWords * i + 5) entries) (rw length-drop (omega (arith, fits .within))))
 
-      pub lent-arguments : lent ≡ kindArguments (entry (tableOf entries m) i .kind)
-      lent-arguments =
-          let count : entryRowWords * i + 5 + n - (entryRowWords * i + 5) ≡ n = omega arith in
-          rw count (sym are ∙ sym arguments-row)
+    -- those of entry i of a table
+    module _ (m : ℕ) (l : i < m) where
+      lent-arguments : lent ≡ kindArguments (entry (tableOf entries m) i .kind)
+      lent-arguments = lent-words ∙ sym (ap (λ (e : Entry). kindArguments (e .kind)) (getD-tableOf entries m i l))
 
       pub lent-entries : Closed entries m → Entries m lent
       lent-entries closed = rw lent-arguments (closed .arguments i l)
@@ -66,3 +68,8 @@ module _ (entries : List ℕ) (i : ℕ) where
       pub lent-classes : map (class (tableOf entries m)) lent ≡ argumentClasses (tableOf entries m) i
       unfolding argumentClasses
       lent-classes = rw lent-arguments
+
+  -- the class of entry i of a table
+  pub class-row : (m : ℕ) → i < m → class (tableOf entries m) i ≡ loadedEntry entries i .sameAs
+  unfolding class
+  class-row m l = ap (λ (e : Entry). e .sameAs) (getD-tableOf entries m i l)

@@ -32,7 +32,7 @@ part-meet-all-end c = let pre = c .before .before .before .before .pre in omega 
 meet-all-requires : tie.Need-meet-all-requires
 meet-all-requires c κs =
     let start = c .before .before .before .before .before .before .before in
-    ((start .pre .0 .0, lent-entries _ _ _ (start .pre .0 .1) _ (c .before .before .before .argument-count .ensures .1) (start .pre .0 .0)), start .pre .1)
+    ((start .pre .0 .0, lent-entries _ _ _ (c .before .before .before .argument-count .ensures .1) _ (start .pre .0 .1) (start .pre .0 .0)), start .pre .1)
 
 same-length : tie.Need-same-length
 same-length c = search needs
@@ -44,7 +44,7 @@ returns : tie.Need-returns
 returns c =
     let called = c .before .before .before .before in
     let start = called .before .before .before .before .before .before .before .before in
-    rw (lent-classes _ _ _ (start .pre .0 .1) _ (called .before .before .before .before .argument-count .ensures .1)) at (called .meet-all .ensures)
+    rw (lent-classes _ _ _ (called .before .before .before .before .argument-count .ensures .1) _ (start .pre .0 .1)) at (called .meet-all .ensures)
 
 pub meet-arguments-spec : {M : Type 1} → statement M
 meet-arguments-spec =

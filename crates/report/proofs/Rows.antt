@@ -60,7 +60,7 @@ module _ {s : State} {entries numbers names met : List ℕ} (shown : Shown s ent
   t = shown .tabled
 
   -- the class with number n
-  within : n < length (classes s)
+  pub within : n < length (classes s)
   within = subst (λ (xs : List ℕ). n < length xs) (shown .is-order) l
 
   is-class : at met n ≡ at (classes s) n

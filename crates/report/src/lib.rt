@@ -64,8 +64,7 @@ fn entry_numbers(entries: &[u32], numbers: &[u32], names: &[u32], met: &[u32], n
 // How many bytes the entry with number `n` takes.
 fn entry_length(entries: &[u32], numbers: &[u32], names: &[u32], met: &[u32], n: usize) -> usize
     requires { ⌜ (n < length (now met)) × Readable (now entries) (now numbers) (now names) (getD (now met) n 0) ⌝ }
-    ensures few { λ r. ⌜ r ≤ 36 ⌝ }
-    ensures count { λ r. ⌜ ((s : State) → Shown s (now (entries .entry)) (now (numbers .entry)) (now (names .entry)) (now (met .entry))
+    ensures { λ r. ⌜ ((s : State) → Shown s (now (entries .entry)) (now (numbers .entry)) (now (names .entry)) (now (met .entry))
         → r ≡ length (numberBytes (rowNumbers s n))) ⌝ }
 {
     let e = entry_numbers(entries, numbers, names, met, n);

@@ -1,3 +1,8 @@
+-- `report::entry_length` meets its contract: the bytes are those of the entry's numbers. Assumes nothing.
+use mathlib.Core.Path.{ap, _∙_}
+use lib.ListN.{length}
+use Rattle.model.specs.Report.{numberBytes}
+use Rattle.report.proofs.Bytes.{run-front}
 use borrow.Author.Needs.{needs}
 use Rattle.report.proofs.entry_length.Statement.{statement}
 use Rattle.report.proofs.entry_length.Tie as tie
@@ -12,7 +17,8 @@ run-length-requires : tie.Need-run-length-requires
 run-length-requires c κs = search needs
 
 returns : tie.Need-returns
-returns c = ?
+returns c = λ s shown.
+    c .run-length .ensures ∙ ap length (run-front _ _ ∙ ap numberBytes (c .before .before .before .entry-numbers .ensures .1 s shown))
 
 pub entry-length-spec : {M : Type 1} → statement M
 entry-length-spec =

@@ -1,11 +1,18 @@
+-- `report::write_report` meets its contract: behind the numbers before the entries, the first `n` entries are laid over `out`, and
+-- the measure is the entries that are left. Assumes nothing.
+use Prim.Native.Nat.{_-_}
+use native.Mathlib.Omega.{arith}
+use lib.ListN.{length}
+use Rattle.report.proofs.Writing.{Written, written-none}
 use Rattle.report.proofs.write_report.Statement.{statement}
 use Rattle.report.proofs.write_report.Tie as tie
 
 abbrev Inv-loop : tie.InvT-loop
-Inv-loop entries numbers names met head out₀ at₀ n₀ out at n = ?
+Inv-loop entries numbers names met head out₀ at₀ n₀ out at n =
+    Written entries numbers names met head out₀ at₀ out at n
 
 abbrev μ-loop : tie.MeasureT-loop
-μ-loop entries numbers names met head out₀ at₀ n₀ out at n = ?
+μ-loop entries numbers names met head out₀ at₀ n₀ out at n = length met - n
 
 put-run-requires : tie.Need-put-run-requires Inv-loop μ-loop
 put-run-requires c κs = ?

@@ -92,7 +92,7 @@ module _ {s : State} {entries numbers : List ℕ} (t : Tabled s entries numbers)
 
   pub row-small : (n : ℕ) → n < length (classes s) → smallWords (rowNumbers s n)
   unfolding rowNumbers
-  row-small n l = small-words _ (small-row (t .limits) s (t .modest) (facts t) n l .0)
+  row-small n l = small-words _ (small-row (t .held .limits) s (t .held .modest) (facts (t .held)) n l .0)
 
   -- there are few bytes
   pub report-few : length (reportBytes s) ≤ 100000
@@ -100,12 +100,12 @@ module _ {s : State} {entries numbers : List ℕ} (t : Tabled s entries numbers)
       omega (
         arith,
         reportBytes-short s,
-        report-short (t .limits) s (t .modest) (facts t),
+        report-short (t .held .limits) s (t .held .modest) (facts (t .held)),
         few-lines t,
-        facts t .few-lines,
-        facts t .few-entries,
-        facts t .capacity-fits,
-        t .modest .lines,
-        t .modest .capacity,
-        order-short (s .book) (s .bound) (s .entries) (facts t .table) (s .lines) (facts t .line-entries),
+        facts (t .held) .few-lines,
+        facts (t .held) .few-entries,
+        facts (t .held) .capacity-fits,
+        t .held .modest .lines,
+        t .held .modest .capacity,
+        order-short (s .book) (s .bound) (s .entries) (facts (t .held) .table) (s .lines) (facts (t .held) .line-entries),
       )

@@ -16,10 +16,10 @@ use Rattle.report.proofs.Tables.{facts, line-numbers}
 
 -- few lines, and few classes
 pub few-lines : {s : State} {entries numbers : List ℕ} → Tabled s entries numbers → length (s .lines) ≤ maxNumber
-few-lines t = omega (arith, facts t .few-lines, t .modest .lines)
+few-lines t = omega (arith, facts (t .held) .few-lines, t .held .modest .lines)
 
 pub few-classes : {s : State} {entries numbers : List ℕ} → Tabled s entries numbers → length (classes s) ≤ maxNumber
-few-classes {s} t = few-numbered (t .limits) s (t .modest) (facts t)
+few-classes {s} t = few-numbered (t .held .limits) s (t .held .modest) (facts (t .held))
 
 -- a number in front, numbers behind it, and a number behind those
 module _ (head : List ℕ) (k count : ℕ) (xs : List ℕ) (room : k + 2 ≤ length head) (as-many : length xs ≡ k) (end : List ℕ)

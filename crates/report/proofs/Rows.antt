@@ -73,19 +73,19 @@ module _ {s : State} {entries numbers names met : List ℕ} (shown : Shown s ent
   present = class-present t n within
 
   is-row : entry (s .entries) i ≡ loadedEntry entries i
-  is-row = entry-row t i present
+  is-row = entry-row (t .held) i present
 
   left-term : loadedEntry entries i .left < length (s .book)
-  left-term = subst (λ (e : Entry). e .left < length (s .book)) is-row (facts t .table .left-term i present)
+  left-term = subst (λ (e : Entry). e .left < length (s .book)) is-row (facts (t .held) .table .left-term i present)
 
   right-term : loadedEntry entries i .right < length (s .book)
-  right-term = subst (λ (e : Entry). e .right < length (s .book)) is-row (facts t .table .right-term i present)
+  right-term = subst (λ (e : Entry). e .right < length (s .book)) is-row (facts (t .held) .table .right-term i present)
 
   symbol-small : (at entries (entryRowWords * i + 2) ≡ 0 → ⊥) → at entries (entryRowWords * i + 3) ≤ maxSymbol
   symbol-small h =
       kind-symbol (s .book) (s .bound) (s .entries) _ _ (entry (s .entries) i .kind) _ _
-      (ap (λ (e : Entry). e .kind) is-row ∙ row-common entries i h) (facts t .table .kind-right i present)
-      (root-symbol (t .limits) s (t .modest) (facts t) (entry (s .entries) i .left) (facts t .table .left-term i present))
+      (ap (λ (e : Entry). e .kind) is-row ∙ row-common entries i h) (facts (t .held) .table .kind-right i present)
+      (root-symbol (t .held .limits) s (t .held .modest) (facts (t .held)) (entry (s .entries) i .left) (facts (t .held) .table .left-term i present))
 
   -- its row can be read
   pub readable : Readable entries numbers names (at met n)
@@ -93,7 +93,7 @@ module _ {s : State} {entries numbers names met : List ℕ} (shown : Shown s ent
   readable =
       subst (Readable entries numbers names) (sym is-class)
       (record {
-        fits = row-fits t i present;
+        fits = row-fits (t .held) i present;
         left-fits = omega (arith, left-term, shown .names-fit);
         right-fits = omega (arith, right-term, shown .names-fit);
         small-symbol = symbol-small;

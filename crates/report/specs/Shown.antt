@@ -19,13 +19,17 @@ use Rattle.numbering.specs.Numbering.{EntryFits, Marked, mark}
 abbrev pub classes : State → List ℕ
 classes s = order (s .entries) (s .lines)
 
--- The table of a sound state in rows, and the marks of its classes.
-pub record Tabled (s : State) (entries numbers : List ℕ) : Type 0 where
+-- The table of a sound state, of limits up to the office's, in rows.
+pub record Held (s : State) (entries : List ℕ) : Type 0 where
   pub limits : Limits
   pub modest : Modest limits
   pub sound : T (soundState limits s)
   pub rows-fit : entryRowWords * length (s .entries) ≤ length entries
   pub is-table : s .entries ≡ tableOf entries (length (s .entries))
+
+-- Also the marks of its classes.
+pub record Tabled (s : State) (entries numbers : List ℕ) : Type 0 where
+  pub held : Held s entries
   pub numbers-fit : length (s .entries) ≤ length numbers
   pub is-mark : (x : ℕ) → x < length (s .entries) → at numbers x ≡ mark (classes s) x
 
@@ -40,7 +44,7 @@ rowNumbers s n = entryNumbers (s .entries) (s .book) (s .bound) (classes s) (at 
 unfoldable pub rowsNumbers : State → ℕ → List ℕ
 rowsNumbers s n = concatMap (entryNumbers (s .entries) (s .book) (s .bound) (classes s)) (take n (classes s))
 
--- Also the names of the terms, and the classes in order: all that the entries are written from.
+-- Also the names of its terms, and the classes in order: all that the entries are written from.
 pub record Shown (s : State) (entries numbers names met : List ℕ) : Type 0 where
   pub tabled : Tabled s entries numbers
   pub names-fit : length (s .book) ≤ length names

@@ -1,7 +1,7 @@
 -- The numbering as a loop: the lines' classes first, then those of the arguments of one number after the other. Assumes
 -- nothing.
-use mathlib.Core.Path.{_≡_, refl, sym, ap, subst, _∙_}
-use mathlib.Core.List.{List, [], _++_, map}
+use mathlib.Core.Path.{_≡_, refl, sym, _∙_}
+use mathlib.Core.List.{List, _++_, map}
 use Prim.Native.Nat.{ℕ, zero, suc, _+_, _-_, _≤_, _<_, zero-le}
 use native.Mathlib.Nat.{sub-zero}
 use native.Mathlib.Numerals.{add-one}
@@ -9,7 +9,6 @@ use native.Mathlib.Omega.{arith}
 use borrow.Author.Tests.{lt-ltb, le-ltb}
 use lib.ListN.{length, getD, take, drop, replicate, length-replicate, getD-replicate, List·getD-append}
 use lib.Seq.{getD-take}
-use lib.Dec.{eqb}
 use Rattle.model.specs.Lists.{first}
 use Rattle.model.specs.Table.{Table}
 use Rattle.model.specs.Report.{class, meetAll, argumentClasses, meetArguments, order}

@@ -113,7 +113,13 @@ pub fn renumber(entries: &[u32], items: &[u32], numbers: &[u32], out: &mut [u32]
 // Numbers the classes of the `m` entries that the lines lead to: the lines' own first, then those of the arguments of what is
 // numbered, in rising number. The answer is how many there are; `met` has them in order, and `numbers` has for each class its
 // number plus 1, or 0.
-pub fn number_classes(entries: &[u32], m: usize, lines: &[u32], met: &mut [u32], numbers: &mut [u32]) -> usize
+pub fn number_classes(
+    entries: &[u32],
+    m: usize,
+    lines: &[u32],
+    met: &mut [u32],
+    numbers: &mut [u32],
+) -> usize
     requires { ⌜ Closed (now entries) m × Entries m (now lines) ⌝ }
     requires { ⌜ Room m (now met) (now numbers) ⌝ }
     ensures { λ r. ⌜ Numbered (tableOf (now (entries .entry)) m) (now (lines .entry)) (now (met .exit)) (now (numbers .exit)) r ⌝ }

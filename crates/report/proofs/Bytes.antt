@@ -1,15 +1,15 @@
 -- The report's bytes: those before the entries, then entry after entry; each number is small, and there are few. Assumes
 -- nothing.
 use mathlib.Core.Path.{_≡_, refl, sym, ap, _∙_}
-use mathlib.Core.List.{List, [], _∷_, _++_, append-assoc, append-nil}
-use Prim.Native.Nat.{ℕ, suc, _+_, _*_, _≤_, _<_}
+use mathlib.Core.List.{List, [], _++_, append-assoc, append-nil}
+use Prim.Native.Nat.{ℕ, suc, _+_, _≤_, _<_}
 use native.Mathlib.Numerals.{add-one}
 use native.Mathlib.Omega.{arith}
 use lib.ListN.{length, getD, take, drop, length-append, take-append-drop}
 use lib.Seq.{take-suc, take-length}
 use lib.Dec.{leb, le→leb}
-use Rattle.leb128.specs.Number.{maxGroups, maxNumber}
-use Rattle.model.specs.Lists.{all, concatMap}
+use Rattle.leb128.specs.Number.{maxNumber}
+use Rattle.model.specs.Lists.{concatMap}
 use Rattle.model.specs.Step.{State}
 use Rattle.model.specs.Report.{entryNumbers, report, numberBytes, reportBytes}
 use Rattle.theory.proofs.Lists.Laws.{concatMap-append, all-intro}

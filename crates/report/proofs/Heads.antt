@@ -1,12 +1,11 @@
 -- The numbers before the entries, put into a slice. Assumes nothing.
-use mathlib.Core.Path.{_≡_, refl, sym, ap, _∙_}
+use mathlib.Core.Path.{_≡_, refl}
 use mathlib.Core.List.{List, [], _∷_, _++_, map}
-use Prim.Native.Nat.{ℕ, _+_, _≤_, _<_}
+use Prim.Native.Nat.{ℕ, _+_, _≤_}
 use native.Mathlib.Omega.{arith}
-use lib.ListN.{length, drop, set, length-map, length-set}
+use lib.ListN.{length, drop, set, length-map}
 use Rattle.leb128.specs.Number.{maxNumber}
 use Rattle.model.specs.Step.{State}
-use Rattle.model.specs.Report.{number}
 use Rattle.theory.proofs.Report.Small.{few-numbered}
 use Rattle.runs.specs.Runs.{overAt}
 use Rattle.runs.proofs.Over.{Laid, laid-none, laid-more, laid-set, laid-front}

@@ -1,5 +1,5 @@
 -- The length of the report, added up entry after entry. Assumes nothing.
-use mathlib.Core.Path.{_≡_, sym, ap, _∙_}
+use mathlib.Core.Path.{_≡_, ap, _∙_}
 use mathlib.Core.List.{List}
 use Prim.Native.Nat.{ℕ, _+_, _≤_, _<_}
 use native.Mathlib.Omega.{arith}
@@ -9,7 +9,7 @@ use Rattle.model.specs.Report.{numberBytes, reportBytes}
 use Rattle.runs.specs.Runs.{runBytes}
 use Rattle.report.specs.Shown.{classes, headNumbers, rowNumbers, Shown}
 use Rattle.report.proofs.Rows.{within}
-use Rattle.report.proofs.Bytes.{run-whole, headBytes, rowBytes, rowsBytes, rows-none, length-rows-more, report-parts, rows-short, report-few}
+use Rattle.report.proofs.Bytes.{run-whole, headBytes, rowsBytes, rows-none, length-rows-more, report-parts, rows-short, report-few}
 
 module _ (entries numbers names met head : List ℕ) where
   -- the sum is that of the numbers before the entries and of the first n entries

@@ -1,8 +1,7 @@
 -- The numbers of an entry, from its row: what is read, and what they are for a hole and for a common entry. Assumes nothing.
-use mathlib.Core.Path.{_≡_, refl, sym, ap, subst, _∙_}
-use mathlib.Core.List.{List, [], _∷_, _++_, map}
-use mathlib.Core.Bool.{Bool, true, false, cond}
-use Prim.Native.Nat.{ℕ, suc, _+_, _*_, _-_, _≤_, _<_}
+use mathlib.Core.Path.{_≡_, sym, ap, subst, _∙_}
+use mathlib.Core.List.{List, [], _∷_, map}
+use Prim.Native.Nat.{ℕ, suc, _+_, _*_, _≤_, _<_}
 use native.Mathlib.Numerals.{add-one}
 use native.Mathlib.Omega.{arith}
 use borrow.Author.Tests.{eq-eqb, ne-eqb}
@@ -13,7 +12,7 @@ use Rattle.model.specs.Term.{Node, symbol, Book, Bindings}
 use Rattle.model.specs.Table.{Kind, hole, common, Entry, Table, entry}
 use Rattle.model.specs.Step.{State}
 use Rattle.model.specs.Area.{entryRowWords}
-use Rattle.model.specs.Report.{kindArguments, number, kindNumbers, entryNumbers}
+use Rattle.model.specs.Report.{kindArguments, kindNumbers, entryNumbers}
 use Rattle.theory.proofs.Soundness.Facts.{KindRight}
 use Rattle.theory.proofs.Area.Small.{root-symbol}
 use Rattle.layout.specs.Rows.{at, kindOf, loadedEntry}

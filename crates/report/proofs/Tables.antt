@@ -2,17 +2,16 @@
 -- nothing.
 use mathlib.Core.Path.{_≡_, refl, sym, ap, ap₂, subst, _∙_}
 use mathlib.Core.List.{List, [], _∷_, map}
-use Prim.Native.Nat.{ℕ, zero, suc, _+_, _*_, _-_, _≤_, _<_, zero-le, suc-le-suc}
+use Prim.Native.Nat.{ℕ, suc, _≤_, _<_, zero-le, suc-le-suc}
 use native.Mathlib.Omega.{arith}
 use borrow.Author.Tests.{eq-eqb}
 use lib.ListN.{length, getD, take, length-map}
 use lib.Dec.{eqb}
-use Rattle.model.specs.Limits.{maxArity, maxSymbol}
+use Rattle.model.specs.Limits.{maxArity}
 use Rattle.model.specs.Lists.{first}
-use Rattle.model.specs.Term.{Node, symbol, arguments, Book, Bindings}
+use Rattle.model.specs.Term.{Node, arguments, Book, Bindings}
 use Rattle.model.specs.Table.{Kind, hole, common, Entry, Table, entry}
 use Rattle.model.specs.Step.{State}
-use Rattle.model.specs.Area.{entryRowWords}
 use Rattle.model.specs.Report.{kindArguments, class, argumentClasses, number}
 use Rattle.theory.specs.Numbering.{NumberedBelow, Numbering}
 use Rattle.theory.proofs.Lists.Laws.{true-T, first-least}

@@ -1,15 +1,15 @@
 -- Writing the report: the numbers before the entries are laid at the front, then entry after entry behind them. Assumes
 -- nothing.
-use mathlib.Core.Path.{_≡_, refl, ap, subst, _∙_}
+use mathlib.Core.Path.{_≡_, refl, ap, _∙_}
 use mathlib.Core.List.{List, _++_}
 use Prim.Native.Nat.{ℕ, _+_, _-_, _≤_, _<_}
 use native.Mathlib.Omega.{arith}
-use lib.ListN.{length, take, drop, length-append}
+use lib.ListN.{length, take, drop}
 use lib.Seq.{take-length}
 use Rattle.model.specs.Step.{State}
 use Rattle.model.specs.Report.{reportBytes}
 use Rattle.runs.specs.Runs.{smallWords, runBytes}
-use Rattle.runs.proofs.Over.{Laid, laid-none, laid-more, laid-length, laid-front, tail, tail-length, tail-laid, tail-kept}
+use Rattle.runs.proofs.Over.{Laid, laid-none, laid-more, laid-front, tail, tail-length, tail-laid, tail-kept}
 use Rattle.report.specs.Shown.{classes, headNumbers, Shown}
 use Rattle.report.proofs.Rows.{within}
 use Rattle.report.proofs.Bytes.{run-whole, headBytes, rowBytes, rowsBytes, rows-none, rows-more, length-rows-more, report-parts, rows-short, head-small}

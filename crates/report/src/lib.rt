@@ -3,7 +3,7 @@
 
 ghost use mathlib.Core.Path.{_≡_};
 ghost use mathlib.Core.List.{_++_};
-ghost use Prim.Native.Nat.{ℕ, _+_, _≤_, _<_};
+ghost use Prim.Native.Nat.{_+_, _≤_, _<_};
 ghost use lib.ListN.{length, getD, take, drop};
 ghost use Rattle.model.specs.Step.{State};
 ghost use Rattle.model.specs.Report.{numberBytes, reportBytes};
@@ -92,7 +92,13 @@ fn put_entry(
 }
 
 // How many bytes the report takes.
-pub fn report_length(entries: &[u32], numbers: &[u32], names: &[u32], met: &[u32], head: &[u32]) -> usize
+pub fn report_length(
+    entries: &[u32],
+    numbers: &[u32],
+    names: &[u32],
+    met: &[u32],
+    head: &[u32],
+) -> usize
     requires { ⌜ Given (λ s. Shown s (now entries) (now numbers) (now names) (now met) × (now head ≡ headNumbers s)) ⌝ }
     ensures { λ r. ⌜ ((s : State) → Shown s (now (entries .entry)) (now (numbers .entry)) (now (names .entry)) (now (met .entry))
         → now (head .entry) ≡ headNumbers s → r ≡ length (reportBytes s)) ⌝ }

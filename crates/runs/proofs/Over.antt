@@ -113,5 +113,5 @@ pub number-laid : (out : List ℕ) (at n : ℕ) → n ≤ maxNumber → at + len
     → Laid out at (write maxGroups n) (take at out ++ (last ++ drop (length out - at) (drop at out))) (at + r)
 number-laid out at n small room r last e f =
     let written : writeWithin maxGroups maxNumber (length (tail out at)) n ≡ write maxGroups n =
-        all-written (length (tail out at)) n small (write maxGroups n) refl (rw (tail-length out at) (omega arith)) in
+    all-written (length (tail out at)) n small (write maxGroups n) refl (rw (tail-length out at) (omega arith)) in
     tail-laid out at (write maxGroups n) last r (rw written at e) (rw written at f)

@@ -74,12 +74,12 @@ fn entry_length(entries: &[u32], numbers: &[u32], names: &[u32], met: &[u32], n:
 
 // Writes the entry with number `n` to the front of `out`, which is long enough, and gives the number of bytes.
 fn put_entry(
+    out: &mut [u8],
     entries: &[u32],
     numbers: &[u32],
     names: &[u32],
     met: &[u32],
     n: usize,
-    out: &mut [u8],
 ) -> usize
     requires { ⌜ Given (λ s. Shown s (now entries) (now numbers) (now names) (now met) × (length (numberBytes (rowNumbers s n)) ≤ length (now out))) ⌝ }
     requires { ⌜ n < length (now met) ⌝ }
@@ -93,11 +93,11 @@ fn put_entry(
 
 // How many bytes the report takes.
 pub fn report_length(
+    head: &[u32],
     entries: &[u32],
     numbers: &[u32],
     names: &[u32],
     met: &[u32],
-    head: &[u32],
 ) -> usize
     requires { ⌜ Given (λ s. Shown s (now entries) (now numbers) (now names) (now met) × (now head ≡ headNumbers s)) ⌝ }
     ensures { λ r. ⌜ ((s : State) → Shown s (now (entries .entry)) (now (numbers .entry)) (now (names .entry)) (now (met .entry))
@@ -115,12 +115,12 @@ pub fn report_length(
 // Writes the report to the front of `out`, which is long enough, and gives the number of bytes. Each entry is written to the
 // part of `out` that is not written yet.
 pub fn write_report(
+    head: &[u32],
+    out: &mut [u8],
     entries: &[u32],
     numbers: &[u32],
     names: &[u32],
     met: &[u32],
-    head: &[u32],
-    out: &mut [u8],
 ) -> usize
     requires { ⌜ Given (λ s. Shown s (now entries) (now numbers) (now names) (now met) × (now head ≡ headNumbers s)
         × (length (reportBytes s) ≤ length (now out))) ⌝ }
@@ -131,7 +131,7 @@ pub fn write_report(
     let mut at = runs::put_run(head, 0, head.len(), out, 0);
     let mut n = 0;
     while n < met.len() {
-        at += put_entry(entries, numbers, names, met, n, &mut out[at..]);
+        at += put_entry(&mut out[at..], entries, numbers, names, met, n);
         n += 1;
     }
     at

@@ -9,11 +9,11 @@ use Rattle.report.proofs.report_length.Statement.{statement}
 use Rattle.report.proofs.report_length.Tie as tie
 
 abbrev Inv-loop : tie.InvT-loop
-Inv-loop entries numbers names met head sum₀ n₀ sum n =
+Inv-loop head entries numbers names met sum₀ n₀ sum n =
     (n ≤ length met) × Sum entries numbers names met head sum n
 
 abbrev μ-loop : tie.MeasureT-loop
-μ-loop entries numbers names met head sum₀ n₀ sum n = length met - n
+μ-loop head entries numbers names met sum₀ n₀ sum n = length met - n
 
 run-length-requires : tie.Need-run-length-requires Inv-loop μ-loop
 run-length-requires c κs = omega arith

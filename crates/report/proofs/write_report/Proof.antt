@@ -11,11 +11,11 @@ use Rattle.report.proofs.write_report.Statement.{statement}
 use Rattle.report.proofs.write_report.Tie as tie
 
 abbrev Inv-loop : tie.InvT-loop
-Inv-loop entries numbers names met head out₀ at₀ n₀ out at n =
+Inv-loop head out₀ entries numbers names met at₀ n₀ out at n =
     Written entries numbers names met head out₀ at₀ out at n
 
 abbrev μ-loop : tie.MeasureT-loop
-μ-loop entries numbers names met head out₀ at₀ n₀ out at n = length met - n
+μ-loop head out₀ entries numbers names met at₀ n₀ out at n = length met - n
 
 put-run-requires : tie.Need-put-run-requires Inv-loop μ-loop
 put-run-requires c κs =
@@ -73,7 +73,7 @@ loop-again c =
     let given = turn .before .before .before .before .before .before .before .before .before .before .before .before .pre in
     let put = c .before .before .put-entry in
     written-more (turn .before .loop .inv) (turn .loop-test .taken) _ _ (put .ensures)
-    (omega (arith, room turn, put .ensures (given .state) (given .holds .0) .0)) (put .kept .1 .1 .1 .1 .1 .0)
+    (omega (arith, room turn, put .ensures (given .state) (given .holds .0) .0)) (put .kept .0)
 
 same-length : tie.Need-same-length Inv-loop μ-loop
 same-length c = c .before .loop .inv .same-size ∙ c .before .before .before .before .put-run .kept .1 .1 .1 .0

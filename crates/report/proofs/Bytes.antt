@@ -19,7 +19,7 @@ use Rattle.theory.proofs.Report.Small.{small-numbers, small-row, report-short, 
 use Rattle.runs.specs.Runs.{smallWords, runBytes}
 use Rattle.runs.proofs.Numbers.{numbers-append}
 use Rattle.runs.proofs.Over.{Laid, laid-front}
-use Rattle.report.specs.Shown.{classes, Tabled, headNumbers, rowNumbers, rowsNumbers}
+use Rattle.report.specs.Shown.{classes, Tabled, headNumbers, rowNumbers}
 use Rattle.report.proofs.Tables.{facts}
 use Rattle.report.proofs.Heads.{few-lines, few-classes}
 
@@ -36,7 +36,11 @@ pub run-laid : (words xs : List ℕ) (n : ℕ) → take n words ≡ xs → (out 
     → (r ≡ length (numberBytes xs)) × (end ≡ numberBytes xs ++ drop r out)
 run-laid words xs n e out end r laid = laid-front out (numberBytes xs) end r (rw (run-front words n, e) at laid)
 
--- the bytes before the entries, and those of the first n entries
+-- the numbers of the first n entries
+unfoldable pub rowsNumbers : State → ℕ → List ℕ
+rowsNumbers s n = concatMap (entryNumbers (s .entries) (s .book) (s .bound) (classes s)) (take n (classes s))
+
+-- the bytes before the entries, of an entry, and of the first n entries
 abbrev pub headBytes : State → List ℕ
 headBytes s = numberBytes (headNumbers s)
 

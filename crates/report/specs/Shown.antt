@@ -3,10 +3,9 @@
 use mathlib.Core.Path.{_≡_}
 use mathlib.Core.List.{List, [], _∷_, _++_, map}
 use Prim.Native.Nat.{ℕ, _+_, _*_, _≤_, _<_}
-use lib.ListN.{length, take}
+use lib.ListN.{length}
 use lib.Dec.{T}
 use Rattle.model.specs.Limits.{Limits, maxSymbol}
-use Rattle.model.specs.Lists.{concatMap}
 use Rattle.model.specs.Term.{name}
 use Rattle.model.specs.Step.{State}
 use Rattle.model.specs.Area.{entryRowWords, soundState}
@@ -37,12 +36,9 @@ pub record Tabled (s : State) (entries numbers : List ℕ) : Type 0 where
 unfoldable pub headNumbers : State → List ℕ
 headNumbers s = length (s .lines) ∷ map (number (s .entries) (classes s)) (s .lines) ++ length (classes s) ∷ []
 
--- The numbers of the entry with number n, and of the first n entries.
+-- The numbers of the entry with number n.
 unfoldable pub rowNumbers : State → ℕ → List ℕ
 rowNumbers s n = entryNumbers (s .entries) (s .book) (s .bound) (classes s) (at (classes s) n)
-
-unfoldable pub rowsNumbers : State → ℕ → List ℕ
-rowsNumbers s n = concatMap (entryNumbers (s .entries) (s .book) (s .bound) (classes s)) (take n (classes s))
 
 -- Also the names of its terms, and the classes in order: all that the entries are written from.
 pub record Shown (s : State) (entries numbers names met : List ℕ) : Type 0 where

@@ -7,7 +7,7 @@ use borrow.Author.Tests.{eq-eqb, ne-eqb}
 use lib.ListN.{length, take, drop, length-take, length-drop}
 use lib.Seq.{length-take-le}
 use Rattle.model.specs.Limits.{maxArity}
-use Rattle.model.specs.Table.{Entry, entry}
+use Rattle.model.specs.Table.{hole, common, Entry, entry}
 use Rattle.model.specs.Area.{entryRowWords}
 use Rattle.model.specs.Report.{kindArguments, class, argumentClasses}
 use Rattle.layout.specs.Rows.{at, kindOf, loadedEntry, tableOf}
@@ -20,22 +20,33 @@ unfolding loadedEntry
 row-class entries i = refl
 
 module _ (entries : List ℕ) (i : ℕ) where
-  -- a hole has no arguments
-  pub hole-arguments : at entries (entryRowWords * i + 2) ≡ 0 → kindArguments (loadedEntry entries i .kind) ≡ []
-  unfolding loadedEntry kindOf kindArguments
-  hole-arguments e = rw (eq-eqb (at entries (entryRowWords * i + 2)) 0 e)
+  -- the kind in a row: a hole, or common, with as many arguments as its count says
+  pub row-hole : at entries (entryRowWords * i + 2) ≡ 0 → loadedEntry entries i .kind ≡ hole
+  unfolding loadedEntry kindOf
+  row-hole e = rw (eq-eqb (at entries (entryRowWords * i + 2)) 0 e)
 
-  -- any other row has as many as its count says
+  pub row-common : (at entries (entryRowWords * i + 2) ≡ 0 → ⊥)
+      → loadedEntry entries i .kind ≡ common (at entries (entryRowWords * i + 3))
+      (take (at entries (entryRowWords * i + 4)) (drop (entryRowWords * i + 5) entries))
+  unfolding loadedEntry kindOf
+  row-common h =
+      let row : ℕ = entryRowWords * i in
+      let symbol : row + 2 + 1 ≡ row + 3 = omega arith in
+      let count : row + 2 + 2 ≡ row + 4 = omega arith in
+      let first : row + 2 + 3 ≡ row + 5 = omega arith in
+      rw (ne-eqb (at entries (row + 2)) 0 h, symbol, count, first)
+
+  -- so its arguments
+  pub hole-arguments : at entries (entryRowWords * i + 2) ≡ 0 → kindArguments (loadedEntry entries i .kind) ≡ []
+  unfolding kindArguments
+  hole-arguments e = ap kindArguments (row-hole e)
+
   pub common-arguments : (at entries (entryRowWords * i + 2) ≡ 0 → ⊥)
       → kindArguments (loadedEntry entries i .kind) ≡ take (at entries (entryRowWords * i + 4)) (drop (entryRowWords * i + 5) entries)
-  unfolding loadedEntry kindOf kindArguments
-  common-arguments h =
-      let row : ℕ = entryRowWords * i in
-      let e : row + 2 + 2 ≡ row + 4 = omega arith in
-      let f : row + 2 + 3 ≡ row + 5 = omega arith in
-      rw (ne-eqb (at entries (row + 2)) 0 h, e, f)
+  unfolding kindArguments
+  common-arguments h = ap kindArguments (row-common h)
 
-  -- that is at most maxArity
+  -- which are at most maxArity
   pub few-arguments : EntryFits entries i → (at entries (entryRowWords * i + 2) ≡ 0 → ⊥) → at entries (entryRowWords * i + 4) ≤ maxArity
   few-arguments fits h =
       let n : ℕ = at entries (entryRowWords * i + 4) in

@@ -4,7 +4,6 @@ use mathlib.Core.List.{List, [], _∷_, map}
 use Prim.Native.Nat.{ℕ, suc, _+_, _*_, _≤_, _<_}
 use native.Mathlib.Numerals.{add-one}
 use native.Mathlib.Omega.{arith}
-use borrow.Author.Tests.{eq-eqb, ne-eqb}
 use lib.ListN.{length, take, drop, length-map}
 use lib.Seq.{take-at}
 use Rattle.model.specs.Limits.{maxArity, maxSymbol}
@@ -15,10 +14,10 @@ use Rattle.model.specs.Area.{entryRowWords}
 use Rattle.model.specs.Report.{kindArguments, kindNumbers, entryNumbers}
 use Rattle.theory.proofs.Soundness.Facts.{KindRight}
 use Rattle.theory.proofs.Area.Small.{root-symbol}
-use Rattle.layout.specs.Rows.{at, kindOf, loadedEntry}
+use Rattle.layout.specs.Rows.{at, loadedEntry}
 use Rattle.runs.specs.Runs.{overAt}
 use Rattle.numbering.specs.Numbering.{newNumber}
-use Rattle.numbering.proofs.Rows.{lent, lent-words, lent-length}
+use Rattle.numbering.proofs.Rows.{row-hole, row-common, common-arguments, lent, lent-words, lent-length}
 use Rattle.report.specs.Shown.{classes, Tabled, rowNumbers, Shown, Readable}
 use Rattle.report.proofs.Tables.{Marks, facts, entry-row, row-fits, class-present, arguments-marked, argument-numbers}
 
@@ -29,18 +28,10 @@ kind-symbol b β es s args k l r e h p =
     let right = subst (λ (k : Kind). KindRight b β es k l r) e h in
     omega (arith, right .the-symbol)
 
-module _ (entries : List ℕ) (i : ℕ) where
-  -- the kind in a row
-  row-hole : at entries (entryRowWords * i + 2) ≡ 0 → loadedEntry entries i .kind ≡ hole
-  unfolding loadedEntry kindOf
-  row-hole e = rw (eq-eqb (at entries (entryRowWords * i + 2)) 0 e)
-
-  row-common : (at entries (entryRowWords * i + 2) ≡ 0 → ⊥)
-      → loadedEntry entries i .kind ≡ common (at entries (entryRowWords * i + 3)) (kindArguments (loadedEntry entries i .kind))
-  unfolding loadedEntry kindOf kindArguments
-  row-common h =
-      let e : entryRowWords * i + 2 + 1 ≡ entryRowWords * i + 3 = omega arith in
-      rw (ne-eqb (at entries (entryRowWords * i + 2)) 0 h, e)
+-- a row that is no hole has its symbol and its arguments
+row-symbol : (entries : List ℕ) (i : ℕ) → (at entries (entryRowWords * i + 2) ≡ 0 → ⊥)
+    → loadedEntry entries i .kind ≡ common (at entries (entryRowWords * i + 3)) (kindArguments (loadedEntry entries i .kind))
+row-symbol entries i h = row-common entries i h ∙ rw (common-arguments entries i h)
 
 -- the arguments that are lent have marks
 pub lent-marked : {entries numbers names : List ℕ} {i : ℕ} → Readable entries numbers names i → (k : ℕ)
@@ -83,7 +74,7 @@ module _ {s : State} {entries numbers names met : List ℕ} (shown : Shown s ent
   symbol-small : (at entries (entryRowWords * i + 2) ≡ 0 → ⊥) → at entries (entryRowWords * i + 3) ≤ maxSymbol
   symbol-small h =
       kind-symbol (s .book) (s .bound) (s .entries) _ _ (entry (s .entries) i .kind) _ _
-      (ap (λ (e : Entry). e .kind) is-row ∙ row-common entries i h) (facts (t .held) .table .kind-right i present)
+      (ap (λ (e : Entry). e .kind) is-row ∙ row-symbol entries i h) (facts (t .held) .table .kind-right i present)
       (root-symbol (t .held .limits) s (t .held .modest) (facts (t .held)) (entry (s .entries) i .left) (facts (t .held) .table .left-term i present))
 
   -- its row can be read
@@ -116,7 +107,7 @@ module _ {s : State} {entries numbers names met : List ℕ} (shown : Shown s ent
       rowNumbers s n ≡ at names (at entries (entryRowWords * at met n)) ∷ at names (at entries (entryRowWords * at met n + 1)) ∷
       (at entries (entryRowWords * at met n + 3) + 1) ∷ length args ∷ map (newNumber entries numbers) args
   unfolding kindNumbers
-  common-numbers = rw is-class (λ h. by-kind _ (row-common entries i h) ∙ rw (argument-numbers t n within, add-one (at entries (entryRowWords * i + 3))))
+  common-numbers = rw is-class (λ h. by-kind _ (row-symbol entries i h) ∙ rw (argument-numbers t n within, add-one (at entries (entryRowWords * i + 3))))
 
   -- laid behind the first four, the numbers of k arguments complete those of a common entry
   module _ (h : at entries (entryRowWords * at met n + 2) ≡ 0 → ⊥) (k : ℕ)

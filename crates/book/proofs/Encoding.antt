@@ -8,7 +8,7 @@ use Rattle.leb128.specs.Number.{maxGroups, write}
 use Rattle.model.specs.BookBytes.{bookBytes}
 use Rattle.layout.specs.Rows.{bookOf}
 use Rattle.book.specs.Encoding.{termBytes, termsBytes}
-use Rattle.book.proofs.Over.{Laid, laid-more, laid-length, laid-front}
+use Rattle.runs.proofs.Over.{Laid, laid-more, laid-length, laid-front}
 use Rattle.book.proofs.Terms.{terms-more, length-terms-more, terms-grow, book-terms}
 
 -- a book's length is that of the number of its terms and of the terms

@@ -5,8 +5,6 @@ pub mod Parsing
 pub mod Term
 pub mod TermRows
 pub mod Whole
-pub mod Over
-pub mod Numbers
 pub mod Terms
 pub mod Encoding
 pub mod RowsBook

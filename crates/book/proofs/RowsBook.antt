@@ -22,7 +22,7 @@ use Rattle.theory.proofs.Area.Rows.{width-node}
 use Rattle.theory.proofs.Area.Small.{below-node}
 use Rattle.layout.specs.Rows.{nodeOf, bookOf}
 use Rattle.book.specs.Rows.{bookRows, encodable}
-use Rattle.book.proofs.Numbers.{length-numbers}
+use Rattle.runs.proofs.Numbers.{length-numbers}
 
 -- ---- one term
 

@@ -20,8 +20,9 @@ use Rattle.theory.proofs.Lists.Laws.{concatMap-append, all-at, length-from, get
 use Rattle.theory.proofs.Lists.Conjunctions.{and₄}
 use Rattle.layout.specs.Rows.{nodeOf, bookOf}
 use Rattle.book.specs.Rows.{encodable}
-use Rattle.book.specs.Encoding.{smallWords, RowFits, runBytes, termBytes, termsBytes}
-use Rattle.book.proofs.Numbers.{numbers-append, numbers-first}
+use Rattle.runs.specs.Runs.{smallWords, runBytes}
+use Rattle.book.specs.Encoding.{RowFits, termBytes, termsBytes}
+use Rattle.runs.proofs.Numbers.{numbers-append, numbers-first}
 
 -- ---- a row's numbers
 

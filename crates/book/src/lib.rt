@@ -79,7 +79,7 @@ pub fn encode(rows: &[u32], terms: usize, out: &mut [u8]) -> usize
     ensures bytes { λ r. ⌜ now (out .exit) ≡ bookBytes (bookOf (now (rows .entry)) terms) ++ drop r (now (out .entry)) ⌝ }
 {
     let mut t: usize = 0;
-    let mut at = write::put_number(out, 0, terms as u32);
+    let mut at = runs::put_number(out, 0, terms as u32);
     while t < terms {
         at = write::put_term(rows, t, out, at);
         t += 1;

@@ -111,7 +111,7 @@ fn walk_arguments(
 }
 
 // Clears the first `n` marks.
-fn clear(marks: &mut [u32], n: usize)
+pub fn clear(marks: &mut [u32], n: usize)
     requires { ⌜ n ≤ length (now marks) ⌝ }
     ensures { λ _. ⌜ now (marks .exit) ≡ replicate n 0 ++ drop n (now (marks .entry)) ⌝ }
 {

@@ -10,6 +10,15 @@ use Rattle.model.specs.Table.{Table, entry}
 use Rattle.model.specs.Report.{class, argumentClasses, order}
 use Rattle.model.specs.Area.{sound, stateOf}
 
+-- The elements of a list are distinct.
+abbrev pub Distinct : List ℕ → Type 0
+Distinct xs = (i j : ℕ) → i < j → j < length xs → getD xs i 0 ≡ getD xs j 0 → ⊥
+
+-- Distinct numbers below n: what was met, in a table of n entries.
+pub record Met (n : ℕ) (met : List ℕ) : Type 0 where
+  pub below : (i : ℕ) → i < length met → getD met i 0 < n
+  pub distinct : Distinct met
+
 -- Class x has a number below k.
 pub record NumberedBelow (met : List ℕ) (k x : ℕ) : Type 0 where
   pub number : ℕ
@@ -36,7 +45,7 @@ pub record Numbering (es : Table) (lines met : List ℕ) : Type 0 where
   pub lines-numbered : (j : ℕ) → j < length lines → NumberedBelow met (length met) (class es (getD lines j 0))
   pub arguments-numbered : (n a : ℕ) → n < length met → a < length (argumentClasses es (getD met n 0))
       → NumberedBelow met (length met) (getD (argumentClasses es (getD met n 0)) a 0)
-  pub each-once : (m n : ℕ) → m < n → n < length met → getD met m 0 ≡ getD met n 0 → ⊥
+  pub each-once : Distinct met
   pub nothing-else : (n : ℕ) → n < length met → OfLine es lines (getD met n 0) ⊎ OfArgument es met n (getD met n 0)
   -- a class goes by the number of its lowest entry
   pub classes : (n : ℕ) → n < length met → (getD met n 0 < length es) × (class es (getD met n 0) ≡ getD met n 0)

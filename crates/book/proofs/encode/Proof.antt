@@ -3,7 +3,7 @@
 use Prim.Native.Nat.{_≤_, _-_}
 use native.Mathlib.Omega.{arith}
 use Rattle.book.specs.Encoding.{termsBytes}
-use Rattle.book.proofs.Over.{Laid, laid-none}
+use Rattle.runs.proofs.Over.{Laid, laid-none}
 use Rattle.book.proofs.Terms.{terms-none, encodable-terms, encodable-small, encodable-row}
 use Rattle.book.proofs.Encoding.{first-fits, terms-length, term-fits, term-laid, book-laid}
 use Rattle.book.proofs.encode.Statement.{statement}

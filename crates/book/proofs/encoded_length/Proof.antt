@@ -8,7 +8,7 @@ use lib.ListN.{length}
 use Rattle.leb128.specs.Number.{maxGroups}
 use Rattle.model.specs.Area.{termWords}
 use Rattle.book.specs.Encoding.{termsBytes}
-use Rattle.book.proofs.Numbers.{length-write}
+use Rattle.runs.proofs.Numbers.{length-write}
 use Rattle.book.proofs.Terms.{terms-none, length-terms-more, encodable-terms, encodable-row}
 use Rattle.book.proofs.Encoding.{length-book}
 use Rattle.book.proofs.encoded_length.Statement.{statement}

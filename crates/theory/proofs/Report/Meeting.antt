@@ -12,6 +12,7 @@ use Rattle.model.specs.Lists.{first}
 use Rattle.model.specs.Term.{Node, Book, Bindings, val}
 use Rattle.model.specs.Table.{Kind, hole, common, Table, entry}
 use Rattle.model.specs.Report.{meet, meetAll, kindArguments, class, argumentClasses, meetArguments, order}
+use Rattle.theory.specs.Numbering.{Distinct, Met}
 use Rattle.theory.proofs.Soundness.Facts.{Has, KindRight, TableRight}
 use Rattle.theory.proofs.Lists.Laws.{true-T, first-least}
 use Rattle.theory.proofs.Lists.Pigeonhole.{pigeonhole}
@@ -25,11 +26,7 @@ snoc-all P [] x h p (suc i) l = absurd (not-suc-le-zero (le-of-suc-le-suc l))
 snoc-all P (y ∷ ys) x h p zero l = h 0 (suc-le-suc zero-le)
 snoc-all P (y ∷ ys) x h p (suc i) l = snoc-all P ys x (λ i l. h (suc i) (suc-le-suc l)) p i (le-of-suc-le-suc l)
 
--- the elements of a list are distinct
-abbrev pub Distinct : List ℕ → Type 0
-Distinct xs = (i j : ℕ) → i < j → j < length xs → getD xs i 0 ≡ getD xs j 0 → ⊥
-
--- they stay so with another element behind
+-- distinct elements stay so with another behind
 snoc-distinct : (xs : List ℕ) (x : ℕ) → Distinct xs → ((i : ℕ) → i < length xs → getD xs i 0 ≡ x → ⊥) → Distinct (xs ++ x ∷ [])
 snoc-distinct [] x h g i j p l e = omega arith
 snoc-distinct (y ∷ ys) x h g i zero p l e = not-suc-le-zero p
@@ -39,11 +36,6 @@ snoc-distinct (y ∷ ys) x h g zero (suc j) p l e =
 snoc-distinct (y ∷ ys) x h g (suc i) (suc j) p l e =
     snoc-distinct ys x (λ i j p l. h (suc i) (suc j) (suc-le-suc p) (suc-le-suc l)) (λ i l. g (suc i) (suc-le-suc l)) i j
     (le-of-suc-le-suc p) (le-of-suc-le-suc l) e
-
--- Distinct numbers below n: what was met, in a table of n entries.
-pub record Met (n : ℕ) (met : List ℕ) : Type 0 where
-  pub below : (i : ℕ) → i < length met → getD met i 0 < n
-  pub distinct : Distinct met
 
 pub met-none : (n : ℕ) → Met n []
 met-none n = record { below = λ i l. absurd (not-suc-le-zero l); distinct = λ i j p l e. not-suc-le-zero l }
@@ -56,7 +48,7 @@ first-absent met x e i l h =
 
 module _ (n : ℕ) where
   -- one more number is met
-  met-meet : (met : List ℕ) (x : ℕ) → Met n met → x < n → Met n (meet met x)
+  pub met-meet : (met : List ℕ) (x : ℕ) → Met n met → x < n → Met n (meet met x)
   unfolding meet
   met-meet met x m h = go (ltb (first (eqb x) met) (length met)) refl
     where

@@ -16,11 +16,11 @@ use Rattle.model.specs.Term.{Book, Bindings}
 use Rattle.model.specs.Table.{Table, entry}
 use Rattle.model.specs.Report.{meet, meetAll, kindArguments, class, argumentClasses, meetArguments, order}
 use Rattle.model.specs.Area.{stateOf}
-use Rattle.theory.specs.Numbering.{NumberedBelow, OfLine, OfArgument, Numbering, NumberingAsWritten}
+use Rattle.theory.specs.Numbering.{Met, NumberedBelow, OfLine, OfArgument, Numbering, NumberingAsWritten}
 use Rattle.theory.proofs.Lists.Laws.{first-holds}
 use Rattle.theory.proofs.Soundness.Facts.{TableRight}
 use Rattle.theory.proofs.Table.Search.{lt-or-le, getD-map-lt}
-use Rattle.theory.proofs.Report.Meeting.{Met, met-none, met-meetAll, kind-arguments-below, class-has, class-values, classes-below, met-arguments, met-short}
+use Rattle.theory.proofs.Report.Meeting.{met-none, met-meetAll, kind-arguments-below, class-has, class-values, classes-below, met-arguments, met-short}
 use Rattle.theory.proofs.Area.Bytes.{sound-carries}
 
 -- what holds of both cases of a choice holds of the choice

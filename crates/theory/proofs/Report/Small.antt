@@ -23,16 +23,16 @@ use Rattle.theory.proofs.Area.Small.{root-symbol}
 use Rattle.theory.proofs.Report.Numbering.{numbering, order-short}
 
 -- a list whose numbers are at most maxNumber
-abbrev Small : List ℕ → Type 0
+abbrev pub Small : List ℕ → Type 0
 Small = Below (suc maxNumber)
 
 -- such a list of at most w numbers
-abbrev SmallRow : ℕ → List ℕ → Type 0
+abbrev pub SmallRow : ℕ → List ℕ → Type 0
 SmallRow w ns = Small ns × (length ns ≤ w)
 
 module _ (es : Table) (met : List ℕ) (few : length met ≤ maxNumber) where
   -- the new numbers of entries
-  small-numbers : (is : List ℕ) → Small (map (number es met) is)
+  pub small-numbers : (is : List ℕ) → Small (map (number es met) is)
   unfolding number
   small-numbers is =
       below-all (map (number es met) is) (omega arith)
@@ -51,12 +51,12 @@ module _ (es : Table) (met : List ℕ) (few : length met ≤ maxNumber) where
       (below-cons (omega arith) (below-cons (omega arith) (small-numbers args)), omega (arith, length-map args (number es met)))
 
 -- the classes that the report of a state numbers
-abbrev numbered : State → List ℕ
+abbrev pub numbered : State → List ℕ
 numbered s = order (s .entries) (s .lines)
 
 module _ (lim : Limits) (s : State) (m : Modest lim) (f : SoundFacts lim s) where
   -- few enough for their numbers to be small
-  few-numbered : length (numbered s) ≤ maxNumber
+  pub few-numbered : length (numbered s) ≤ maxNumber
   few-numbered = omega (arith, order-short (s .book) (s .bound) (s .entries) (f .table) (s .lines) (f .line-entries))
 
   -- an entry
@@ -74,7 +74,7 @@ module _ (lim : Limits) (s : State) (m : Modest lim) (f : SoundFacts lim s) wher
       )
 
   -- the entry of the class with number n
-  small-row : (n : ℕ) → n < length (numbered s)
+  pub small-row : (n : ℕ) → n < length (numbered s)
       → SmallRow (4 + maxArity) (entryNumbers (s .entries) (s .book) (s .bound) (numbered s) (getD (numbered s) n 0))
   small-row n l =
       small-entry (getD (numbered s) n 0)

@@ -1,5 +1,8 @@
 -- `book::put_term` meets its contract: a term's bytes are those of the words that are its numbers. Assumes nothing.
+use Prim.Native.Nat.{_*_}
 use native.Mathlib.Omega.{arith}
+use Rattle.model.specs.Area.{termWords}
+use Rattle.runs.proofs.Numbers.{small-part}
 use Rattle.book.proofs.Terms.{term-run}
 use borrow.Author.Needs.{needs}
 use Rattle.book.proofs.write.put_term.Statement.{statement}
@@ -16,7 +19,7 @@ put-run-requires c κs =
     let start = c .before .before .before .before in
     let numbers = c .before .numbers-of in
     let same = term-run _ _ (start .pre .0) (numbers .result) (numbers .ensures .1) in
-    (omega arith, start .pre .1, rw (← same) (start .pre .2))
+    (omega arith, small-part _ (termWords * start .args .t) (numbers .result) (start .pre .1), rw (← same) (start .pre .2))
 
 same-length : tie.Need-same-length
 same-length c = search needs

@@ -4,7 +4,7 @@ use Prim.Native.Nat.{_*_}
 use native.Mathlib.Omega.{arith}
 use lib.ListN.{length}
 use Rattle.model.specs.Area.{termWords}
-use Rattle.book.proofs.Numbers.{run-bound}
+use Rattle.runs.proofs.Numbers.{run-bound}
 use Rattle.book.proofs.Terms.{term-run}
 use borrow.Author.Needs.{needs}
 use Rattle.book.proofs.write.term_length.Statement.{statement}

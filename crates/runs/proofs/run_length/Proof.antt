@@ -1,13 +1,13 @@
--- `book::run_length` meets its contract. The loop's invariant: the sum is the length of the first `i` words' bytes. Assumes nothing.
+-- `runs::run_length` meets its contract. The loop's invariant: the sum is the length of the first `i` words' bytes. Assumes nothing.
 use mathlib.Core.Path.{_≡_, ap, sym, _∙_}
 use Prim.Native.Nat.{ℕ, _≤_, _+_, _-_}
 use borrow.Author.Needs.{needs}
 use native.Mathlib.Omega.{arith}
 use lib.ListN.{length, getD}
-use Rattle.book.specs.Encoding.{runBytes}
-use Rattle.book.proofs.Numbers.{run-none, length-run-more, run-bound, length-write}
-use Rattle.book.proofs.write.run_length.Statement.{statement}
-use Rattle.book.proofs.write.run_length.Tie as tie
+use Rattle.runs.specs.Runs.{runBytes}
+use Rattle.runs.proofs.Numbers.{run-none, length-run-more, run-bound, length-write}
+use Rattle.runs.proofs.run_length.Statement.{statement}
+use Rattle.runs.proofs.run_length.Tie as tie
 
 abbrev Inv-loop : tie.InvT-loop
 Inv-loop rows start count sum₀ i₀ sum i = (i ≤ count) × (sum ≡ length (runBytes rows start i))

@@ -1,12 +1,12 @@
--- `book::put_run` meets its contract. The loop's invariant: the bytes of the first `i` words are laid over `out`. Assumes nothing.
+-- `runs::put_run` meets its contract. The loop's invariant: the bytes of the first `i` words are laid over `out`. Assumes nothing.
 use mathlib.Core.Path.{_≡_, subst}
 use Prim.Native.Nat.{ℕ, _≤_, _+_, _-_}
 use native.Mathlib.Omega.{arith}
-use Rattle.book.specs.Encoding.{runBytes}
-use Rattle.book.proofs.Over.{Laid, laid-none, laid-more, laid-length}
-use Rattle.book.proofs.Numbers.{run-none, run-more, length-run-more, run-grows, small-at}
-use Rattle.book.proofs.write.put_run.Statement.{statement}
-use Rattle.book.proofs.write.put_run.Tie as tie
+use Rattle.runs.specs.Runs.{runBytes}
+use Rattle.runs.proofs.Over.{Laid, laid-none, laid-more, laid-length}
+use Rattle.runs.proofs.Numbers.{run-none, run-more, length-run-more, run-grows, small-run}
+use Rattle.runs.proofs.put_run.Statement.{statement}
+use Rattle.runs.proofs.put_run.Tie as tie
 
 abbrev Inv-loop : tie.InvT-loop
 Inv-loop rows start count out₀ at next₀ i₀ out next i =
@@ -36,7 +36,7 @@ put-number-requires c κs =
     let more = length-run-more (start .args .rows .now) (start .args .start) (loop .i) (omega arith) in
     let grows = run-grows (start .args .rows .now) (start .args .start) (loop .i + 1) (start .args .count) (omega arith) in
     let same = laid-length (start .args .out .now) (start .args .at) _ _ _ (omega arith) (loop .inv .1) in
-    (small-at (start .args .rows .now) (start .args .start + loop .i) (start .pre .1) (omega arith), omega arith)
+    (small-run (start .args .rows .now) (start .args .start) (start .args .count) (loop .i) (start .pre .1) (omega arith) (omega arith), omega arith)
 
 add-i : tie.Need-add-i Inv-loop μ-loop
 add-i c = omega arith

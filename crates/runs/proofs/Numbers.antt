@@ -1,18 +1,18 @@
 -- Numbers as bytes, and runs of words as bytes: one number more, and bounds on the length. Assumes nothing.
 use mathlib.Core.Path.{_≡_, refl}
 use mathlib.Core.List.{List, [], _∷_, _++_, append-nil}
-use Prim.Native.Nat.{ℕ, _+_, _*_, _-_, _≤_, _<_, zero-le}
+use Prim.Native.Nat.{ℕ, _+_, _*_, _-_, _≤_, _<_, zero-le, min}
 use native.Mathlib.Numerals.{add-one}
 use native.Mathlib.Omega.{arith}
 use lib.ListN.{length, getD, take, drop, length-append, length-drop, length-take}
-use lib.Seq.{take-suc, take-add, getD-drop}
+use lib.Seq.{take-suc, take-add, length-take-le, getD-take, getD-drop}
 use lib.Dec.{leb, leb→le}
 use Rattle.leb128.specs.Number.{maxGroups, maxNumber, write}
 use Rattle.leb128.proofs.Laws.{writes-bytes}
 use Rattle.model.specs.Lists.{concatMap}
 use Rattle.model.specs.Report.{numberBytes}
-use Rattle.theory.proofs.Lists.Laws.{concatMap-append, all-at}
-use Rattle.book.specs.Encoding.{smallWords, runBytes}
+use Rattle.theory.proofs.Lists.Laws.{concatMap-append, all-at, all-intro}
+use Rattle.runs.specs.Runs.{smallWords, runBytes}
 
 -- the bytes of numbers put together
 pub numbers-append : (ms ns : List ℕ) → numberBytes (ms ++ ns) ≡ numberBytes ms ++ numberBytes ns
@@ -39,10 +39,22 @@ unfolding numberBytes concatMap
 length-numbers [] = zero-le
 length-numbers (n ∷ ns) = rw length-append (omega (arith, length-write n, length-numbers ns))
 
--- a word of small words is within the limit
-pub small-at : (rows : List ℕ) (i : ℕ) → smallWords rows → i < length rows → getD rows i 0 ≤ maxNumber
+-- a word of a run of small words is within the limit
+pub small-run : (rows : List ℕ) (start n i : ℕ) → smallWords (take n (drop start rows)) → start + n ≤ length rows → i < n
+    → getD rows (start + i) 0 ≤ maxNumber
 unfolding smallWords
-small-at rows i h l = leb→le (getD rows i 0) maxNumber (all-at (λ w. leb w maxNumber) rows 0 h i l)
+small-run rows start n i h fits l =
+    let long : length (take n (drop start rows)) ≡ n = length-take-le n (drop start rows) (rw length-drop (omega arith)) in
+    rw (getD-take n (drop start rows) i 0 l, getD-drop) at
+    (leb→le (getD (take n (drop start rows)) i 0) maxNumber (all-at (λ w. leb w maxNumber) (take n (drop start rows)) 0 h i (rw long l)))
+
+-- a part of small words is a run of them
+pub small-part : (rows : List ℕ) (start n : ℕ) → smallWords rows → smallWords (take n (drop start rows))
+unfolding smallWords
+small-part rows start n h =
+    all-intro (λ w. leb w maxNumber) (take n (drop start rows)) 0 (λ i l.
+    let few : i < min n (length rows - start) = rw (length-take, length-drop) at l in
+    rw (getD-take n (drop start rows) i 0 (omega arith), getD-drop) (all-at (λ w. leb w maxNumber) rows 0 h (start + i) (omega arith)))
 
 module _ (rows : List ℕ) (start : ℕ) where
   -- no words

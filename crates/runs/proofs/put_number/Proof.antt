@@ -1,9 +1,9 @@
--- `book::put_number` meets its contract: the part of `out` that is lent has room for the number. Assumes nothing.
+-- `runs::put_number` meets its contract: the part of `out` that is lent has room for the number. Assumes nothing.
 use borrow.Author.Needs.{needs}
 use native.Mathlib.Omega.{arith}
-use Rattle.book.proofs.Over.{put-part}
-use Rattle.book.proofs.write.put_number.Statement.{statement}
-use Rattle.book.proofs.write.put_number.Tie as tie
+use Rattle.runs.proofs.Over.{number-laid}
+use Rattle.runs.proofs.put_number.Statement.{statement}
+use Rattle.runs.proofs.put_number.Tie as tie
 
 sub-write : tie.Need-sub-write
 sub-write c = search needs
@@ -21,7 +21,7 @@ add-result : tie.Need-add-result
 add-result c =
     let start = c .before .before .before .before .before in
     let write = c .before .before .write in
-    let put = put-part (start .args .out .now) (start .args .at) (start .args .n) (start .pre .0) (start .pre .1) _ _ (write .ensures .0) (write .ensures .1) in
+    let put = number-laid (start .args .out .now) (start .args .at) (start .args .n) (start .pre .0) (start .pre .1) _ _ (write .ensures .0) (write .ensures .1) in
     omega (arith, put .0)
 
 same-length : tie.Need-same-length
@@ -31,7 +31,7 @@ returns : tie.Need-returns
 returns c =
     let start = c .before .before .before .before .before in
     let write = c .before .before .write in
-    put-part (start .args .out .now) (start .args .at) (start .args .n) (start .pre .0) (start .pre .1) _ _ (write .ensures .0) (write .ensures .1)
+    number-laid (start .args .out .now) (start .args .at) (start .args .n) (start .pre .0) (start .pre .1) _ _ (write .ensures .0) (write .ensures .1)
 
 pub put-number-spec : {M : Type 1} → statement M
 put-number-spec =

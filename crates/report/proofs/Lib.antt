@@ -1,0 +1,6 @@
+pub mod Tables
+pub mod Rows
+pub mod Heads
+pub mod Bytes
+pub mod Lengths
+pub mod Writing

@@ -1,0 +1,5 @@
+pub mod Names
+pub mod Places
+pub mod Rows
+pub mod Arguments
+pub mod EntryKind

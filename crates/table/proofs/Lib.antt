@@ -1,0 +1,6 @@
+pub mod Held
+pub mod Names
+pub mod Lists
+pub mod Sizes
+pub mod Placing
+pub mod PlacingAll

@@ -3,3 +3,5 @@ pub mod Places
 pub mod Rows
 pub mod Arguments
 pub mod EntryKind
+pub mod Table
+pub mod Loaded

@@ -1,25 +1,26 @@
 -- The pairs of a table's sides, each number under a function, pushed in order: what each push answers. Assumes nothing.
 use mathlib.Core.Path.{_≡_, refl, sym, _∙_}
 use mathlib.Core.List.{List, map}
-use Prim.Native.Nat.{ℕ, suc, _+_, _<_}
+use Prim.Native.Nat.{ℕ, _+_, _<_}
 use native.Mathlib.Nat.{not-suc-le-zero}
 use native.Mathlib.Numerals.{add-one}
 use native.Mathlib.Omega.{arith}
 use borrow.Author.Count.{below-more}
-use lib.ListN.{length, getD, set}
+use lib.ListN.{length, getD, set, length-set}
 use lib.Dec.{T, eqb, eqb→eq}
 use Rattle.model.specs.Lists.{all, from}
 use Rattle.model.specs.Term.{Book, Bindings, name}
 use Rattle.model.specs.Table.{Entry, Table, holeAt, entry, entryOf}
 use Rattle.model.specs.Area.{distinct}
-use Rattle.theory.proofs.Lists.Laws.{T-true, true-T, same-test}
+use Rattle.theory.proofs.Lists.Laws.{same-test}
 use Rattle.theory.proofs.Soundness.Table.{eq-T, distinct-facts, facts-distinct}
 use Rattle.theory.proofs.Soundness.Terms.{all-below, below-all}
 use Rattle.theory.proofs.Table.Search.{getD-map-lt}
 use Rattle.pairs.specs.Pairs.{placeOf}
 use Rattle.pairs.specs.Index.{Indexed, noHeads, Pushed}
-use Rattle.pairs.proofs.Laws.{Holds, Kept, place-holds, place-le, place-least, place-none, place-at, place-kept, kept-set, holds-set}
+use Rattle.pairs.proofs.Laws.{Holds, Kept, place-least, place-none, place-at, place-kept, kept-set, holds-set}
 use Rattle.pairs.proofs.Growth.{indexed-none}
+use Rattle.entries.specs.Known.{Room}
 use Rattle.entries.proofs.Names.{SideNames, entryOf-place}
 
 -- one side of each entry under f
@@ -38,6 +39,26 @@ pub record Filled (f : ℕ → ℕ) (es : Table) (lefts rights heads next : List
   pub indexed : Indexed lefts rights heads next i
   pub kept : Kept (leftsBy f es) (rightsBy f es) lefts rights i
 
+-- And the slices have the lengths that they had.
+pub record Filling (f : ℕ → ℕ) (es : Table) (lefts₀ rights₀ next₀ lefts rights heads next : List ℕ) (i : ℕ) : Type 0 where
+  pub filled : Filled f es lefts rights heads next i
+  pub lefts-size : length lefts ≡ length lefts₀
+  pub rights-size : length rights ≡ length rights₀
+  pub next-size : length next ≡ length next₀
+
+-- slices of the same lengths have the same room
+pub room-kept : {lefts rights heads next lefts′ rights′ heads′ next′ : List ℕ} {m : ℕ} → Room lefts rights heads next m
+    → length lefts′ ≡ length lefts → length rights′ ≡ length rights → length heads′ ≡ length heads → length next′ ≡ length next
+    → Room lefts′ rights′ heads′ next′ m
+room-kept r l h k n =
+    record {
+      lefts-fit = rw l (r .lefts-fit);
+      rights-fit = rw h (r .rights-fit);
+      next-fit = rw n (r .next-fit);
+      words = rw l (r .words);
+      all-heads = rw k (r .all-heads);
+    }
+
 module _ (f : ℕ → ℕ) (es : Table) where
   -- entry i has its pair at place i
   side-pair : (i : ℕ) → i < length es → Holds (leftsBy f es) (rightsBy f es) i (f (entry es i .left)) (f (entry es i .right))
@@ -49,21 +70,27 @@ module _ (f : ℕ → ℕ) (es : Table) where
       }
 
   -- none are pushed
-  pub filled-none : (lefts rights heads next : List ℕ) → heads ≡ noHeads → length lefts < 4294967296 → Filled f es lefts rights heads next 0
+  filled-none : (lefts rights heads next : List ℕ) → heads ≡ noHeads → length lefts < 4294967296 → Filled f es lefts rights heads next 0
   filled-none lefts rights heads next e h =
       record {
         indexed = indexed-none lefts rights heads next e h;
         kept = record { left = λ j l. absurd (not-suc-le-zero l); right = λ j l. absurd (not-suc-le-zero l) };
       }
 
+  pub filling-none : (lefts rights heads next : List ℕ) → heads ≡ noHeads → length lefts < 4294967296
+      → Filling f es lefts rights next lefts rights heads next 0
+  filling-none lefts rights heads next e h =
+      record { filled = filled-none lefts rights heads next e h; lefts-size = refl; rights-size = refl; next-size = refl }
+
   -- one more is pushed: the answer, and the pairs after it
-  module _ {lefts rights heads next lefts′ rights′ heads′ next′ : List ℕ} {i a b r : ℕ} (there : i < length es) (s : Filled f es lefts rights heads next i)
-      (p : Pushed lefts rights lefts′ rights′ heads′ next′ i a b r) (l : a ≡ f (entry es i .left)) (h : b ≡ f (entry es i .right)) where
+  module _ {lefts rights heads next lefts′ rights′ heads′ next′ : List ℕ} {i a b r : ℕ} (there : i < length es)
+      (s : Filled f es lefts rights heads next i) (p : Pushed lefts rights lefts′ rights′ heads′ next′ i a b r)
+      (l : a ≡ f (entry es i .left)) (h : b ≡ f (entry es i .right)) where
     pub filled-place : r ≡ placeBy f es i
     unfolding placeBy
     filled-place = p .place ∙ rw (l, h) (place-kept (s .kept) i _ _ (omega arith))
 
-    pub filled-more : i < length lefts → i < length rights → Filled f es lefts′ rights′ heads′ next′ (i + 1)
+    filled-more : i < length lefts → i < length rights → Filled f es lefts′ rights′ heads′ next′ (i + 1)
     filled-more room-left room-right =
         let own = side-pair i there in
         let new = holds-set lefts rights i a b room-left room-right in
@@ -71,10 +98,34 @@ module _ (f : ℕ → ℕ) (es : Table) where
         rw (p .left, p .right) (record {
           indexed = rw (add-one, ← p .left, ← p .right) (p .indexed);
           kept = record {
-            left = below-more (λ j. getD (set lefts i a) j 0 ≡ getD (leftsBy f es) j 0) i (λ j k. old .left j k ∙ s .kept .left j k) (new .left ∙ l ∙ sym (own .left));
-            right = below-more (λ j. getD (set rights i b) j 0 ≡ getD (rightsBy f es) j 0) i (λ j k. old .right j k ∙ s .kept .right j k) (new .right ∙ h ∙ sym (own .right));
+            left = below-more (λ j. getD (set lefts i a) j 0 ≡ getD (leftsBy f es) j 0) i (λ j k. old .left j k ∙ s .kept .left j k)
+                (new .left ∙ l ∙ sym (own .left));
+            right = below-more (λ j. getD (set rights i b) j 0 ≡ getD (rightsBy f es) j 0) i (λ j k. old .right j k ∙ s .kept .right j k)
+                (new .right ∙ h ∙ sym (own .right));
           };
         })
+
+  -- the slices have room for one more
+  module _ {lefts₀ rights₀ heads₀ next₀ lefts rights heads next : List ℕ} {i : ℕ}
+      (room : Room lefts₀ rights₀ heads₀ next₀ (length es)) (there : i < length es)
+      (s : Filling f es lefts₀ rights₀ next₀ lefts rights heads next i) where
+    pub push-room : (i < length lefts) × (i < length rights) × (i < length next)
+    push-room = (
+      omega (arith, room .lefts-fit, s .lefts-size),
+      omega (arith, room .rights-fit, s .rights-size),
+      omega (arith, room .next-fit, s .next-size),
+    )
+
+    pub filling-more : {lefts′ rights′ heads′ next′ : List ℕ} {a b r : ℕ} → Pushed lefts rights lefts′ rights′ heads′ next′ i a b r
+        → length next′ ≡ length next → a ≡ f (entry es i .left) → b ≡ f (entry es i .right)
+        → Filling f es lefts₀ rights₀ next₀ lefts′ rights′ heads′ next′ (i + 1)
+    filling-more p n l h =
+        record {
+          filled = filled-more there (s .filled) p l h (push-room .0) (push-room .1);
+          lefts-size = rw (p .left, length-set) (s .lefts-size);
+          rights-size = rw (p .right, length-set) (s .rights-size);
+          next-size = n ∙ s .next-size;
+        }
 
   -- under names the answer is the lowest entry with the values of entry i
   module _ (b : Book) (β : Bindings) (named : (t : ℕ) → t < length b → f t ≡ name b β t)

@@ -4,3 +4,4 @@ pub mod Lists
 pub mod Sizes
 pub mod Placing
 pub mod PlacingAll
+pub mod Turning

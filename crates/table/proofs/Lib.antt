@@ -5,3 +5,4 @@ pub mod Sizes
 pub mod Placing
 pub mod PlacingAll
 pub mod Turning
+pub mod Visiting

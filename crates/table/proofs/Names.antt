@@ -7,7 +7,7 @@ use native.Mathlib.Omega.{arith}
 use lib.ListN.{length, getD, set, length-append, List·getD-append}
 use lib.Seq.{getD-append-seam, getD-set-same, getD-set-other}
 use Rattle.model.specs.Term.{Book, Bindings, name}
-use Rattle.model.specs.Table.{Table, holeAt, entry}
+use Rattle.model.specs.Table.{Entry, Table, holeAt, entry}
 use Rattle.theory.proofs.Table.Search.{Extends, lt-or-le}
 use Rattle.entries.proofs.Names.{SideNames}
 
@@ -45,30 +45,30 @@ module _ {b : Book} {β : Bindings} {es : Table} {ls rs : List ℕ} (s : SideNam
         right-name = rw (x .right i k) (old .right-name);
       })
 
-  -- a hole more, whose names are put behind
-  module _ (k l r : ℕ) (p : l < length b) (q : r < length b) (room-left : length es < length ls) (room-right : length es < length rs) where
+  -- an entry more, whose names are put behind
+  module _ (e : Entry) (p : e .left < length b) (q : e .right < length b) (room-left : length es < length ls) (room-right : length es < length rs) where
     sided-more : (i : ℕ) → i < suc (length es) → (i < length es) ⊎ (length es ≤ i)
-        → Sided b β (es ++ holeAt k l r ∷ []) (set ls (length es) (name b β l)) (set rs (length es) (name b β r)) i
+        → Sided b β (es ++ e ∷ []) (set ls (length es) (name b β (e .left))) (set rs (length es) (name b β (e .right))) i
     sided-more i h (inl g) =
         let old = sides-of s i g in
-        let other : i ≡ length es → ⊥ = λ e. omega arith in
-        let same = List·getD-append es (holeAt k l r ∷ []) (holeAt 0 0 0) i g in
+        let other : i ≡ length es → ⊥ = λ k. omega arith in
+        let same = List·getD-append es (e ∷ []) (holeAt 0 0 0) i g in
         record {
           left-term = rw same (old .left-term);
           right-term = rw same (old .right-term);
-          left-name = rw (same, getD-set-other ls (length es) i (name b β l) 0 other) (old .left-name);
-          right-name = rw (same, getD-set-other rs (length es) i (name b β r) 0 other) (old .right-name);
+          left-name = rw (same, getD-set-other ls (length es) i _ 0 other) (old .left-name);
+          right-name = rw (same, getD-set-other rs (length es) i _ 0 other) (old .right-name);
         }
     sided-more i h (inr g) =
         let here : i ≡ length es = omega arith in
-        let new = getD-append-seam es (holeAt k l r) [] (holeAt 0 0 0) in
+        let new = getD-append-seam es e [] (holeAt 0 0 0) in
         rw here
         (record {
           left-term = rw new p;
           right-term = rw new q;
-          left-name = rw (new, getD-set-same ls (length es) (name b β l) 0 room-left);
-          right-name = rw (new, getD-set-same rs (length es) (name b β r) 0 room-right);
+          left-name = rw (new, getD-set-same ls (length es) _ 0 room-left);
+          right-name = rw (new, getD-set-same rs (length es) _ 0 room-right);
         })
 
-    pub names-more : SideNames b β (es ++ holeAt k l r ∷ []) (set ls (length es) (name b β l)) (set rs (length es) (name b β r))
+    pub names-more : SideNames b β (es ++ e ∷ []) (set ls (length es) (name b β (e .left))) (set rs (length es) (name b β (e .right)))
     names-more = all-sided (λ i h. sided-more i (omega (arith, simp length-append at h)) (lt-or-le i (length es)))

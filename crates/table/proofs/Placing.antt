@@ -103,7 +103,7 @@ module _ {names entries lefts rights heads next : List ℕ} {capacity m l r : �
           let right : length rights′ ≡ length rights = ap length (pushed .right) ∙ length-set rights m _ in
           let new-names : SideNames b β (es ++ holeAt (length es) l r ∷ []) lefts′ rights′ =
           rw (pushed .left, pushed .right, q .known .is-name l (q .left-term), q .known .is-name r (q .right-term), s .count)
-          (names-more (s .names) (length es) l r (q .left-term) (q .right-term) (omega (arith, s .room .lefts-fit, s .count)) (omega (arith, s .room .rights-fit, s .count))) in
+          (names-more (s .names) (holeAt (length es) l r) (q .left-term) (q .right-term) (omega (arith, s .room .lefts-fit, s .count)) (omega (arith, s .room .rights-fit, s .count))) in
           record {
             count = rw length-append (omega (arith, s .count));
             held = new-held;

@@ -1,5 +1,5 @@
 -- Building the index of a table: after i entries their names are indexed. Assumes nothing.
-use mathlib.Core.Path.{_≡_, refl, ap, sym, _∙_}
+use mathlib.Core.Path.{_≡_, ap, _∙_}
 use mathlib.Core.List.{List, [], _∷_, _++_}
 use Prim.Native.Nat.{ℕ, suc, _+_, _*_, _≤_, _<_}
 use native.Mathlib.Nat.{not-suc-le-zero}
@@ -19,7 +19,7 @@ use Rattle.entries.proofs.Names.{SideNames}
 use Rattle.table.specs.Stands.{Whatever}
 use Rattle.table.proofs.Held.{held-row}
 use Rattle.table.proofs.Names.{names-more}
-use Rattle.table.proofs.Sizes.{SameSizes, sizes-trans}
+use Rattle.table.proofs.Sizes.{SameSizes, same-sizes, sizes-trans}
 use Rattle.table.proofs.Turning.{row-left, row-right}
 use Rattle.saturate.specs.Steps.{ToIndex, IsIndexed}
 
@@ -34,11 +34,32 @@ pub record Indexing (names entries lefts₀ rights₀ heads₀ next₀ : List �
   pub within : i ≤ m
   pub so-far : Whatever (ToIndex names entries lefts₀ rights₀ heads₀ next₀ m) (IndexedTo lefts rights heads next i)
 
-pub indexing-none : (names entries lefts rights heads₀ next : List ℕ) (m : ℕ) {heads : List ℕ} → heads ≡ noHeads → length heads ≡ length heads₀
-    → Indexing names entries lefts rights heads₀ next m lefts rights heads next 0
-indexing-none names entries lefts rights heads₀ next m {heads} e size =
+-- other heads will do
+pub other-heads : {names entries lefts rights heads next : List ℕ} {m : ℕ} {b : Book} {β : Bindings} {es : Table} (heads′ : List ℕ)
+    → length heads′ ≡ length heads → ToIndex names entries lefts rights heads next m b β es → ToIndex names entries lefts rights heads′ next m b β es
+other-heads heads′ size q =
+    let room = q .room in
     record {
-      sizes = record { entries-size = refl; left-size = refl; right-size = refl; heads-size = size; next-size = refl };
+      known = q .known;
+      count = q .count;
+      held = q .held;
+      left-term = q .left-term;
+      right-term = q .right-term;
+      room =
+          record {
+            lefts-fit = room .lefts-fit;
+            rights-fit = room .rights-fit;
+            next-fit = room .next-fit;
+            words = room .words;
+            all-heads = size ∙ room .all-heads;
+          };
+    }
+
+pub indexing-none : (names entries lefts rights next : List ℕ) (m : ℕ) {heads : List ℕ} → heads ≡ noHeads
+    → Indexing names entries lefts rights heads next m lefts rights heads next 0
+indexing-none names entries lefts rights next m {heads} e =
+    record {
+      sizes = same-sizes entries lefts rights heads next;
       within = omega arith;
       so-far = λ b β es q.
           record {

@@ -1,7 +1,7 @@
 -- The count of turned entries, where a table changes in one place or in none that is counted. Assumes nothing.
 use mathlib.Core.Path.{_≡_, refl}
 use mathlib.Core.List.{[], _∷_}
-use mathlib.Core.Bool.{Bool, true, false, cond, not, _&&_}
+use mathlib.Core.Bool.{Bool, true, false, cond, not, _&&_, and-false}
 use Prim.Native.Nat.{ℕ, zero, suc, _+_, _≤_, _<_, zero-le, suc-le-suc}
 use native.Mathlib.Nat.{le-of-suc-le-suc, not-suc-le-zero}
 use native.Mathlib.Omega.{arith}
@@ -40,3 +40,18 @@ turned-set (o ∷ old) (x ∷ new) zero e p q h g k = rw (h, g, k) (omega arith)
 turned-set (o ∷ old) (x ∷ new) (suc i) e p q h g k =
     let rest = turned-set old new i e (le-of-suc-le-suc p) (le-of-suc-le-suc q) h g k in
     rw rest (omega arith)
+
+-- a count that two tests raise by one
+module _ (x y : Bool) (t : ℕ) {t′ : ℕ} where
+  pub counted-one : x ≡ true → y ≡ true → t′ ≡ t + 1 → t′ ≡ t + cond (x && y) 1 0
+  counted-one p q e = rw (p, q) e
+
+  pub not-first : x ≡ false → t′ ≡ t → t′ ≡ t + cond (x && y) 1 0
+  not-first p e = rw p (omega arith)
+
+  pub not-second : y ≡ false → t′ ≡ t → t′ ≡ t + cond (x && y) 1 0
+  not-second p e = rw (p, and-false) (omega arith)
+
+pub at-most-one : (x : Bool) → cond x 1 0 ≤ 1
+at-most-one true = omega arith
+at-most-one false = omega arith

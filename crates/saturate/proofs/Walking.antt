@@ -22,7 +22,7 @@ use Rattle.table.specs.declared.Visited.{Visited}
 use Rattle.table.proofs.Placing.{few-entries, stands-reaches}
 use Rattle.table.proofs.Sizes.{SameSizes, same-sizes, sizes-trans}
 use Rattle.saturate.specs.Steps.{ToWalk, IsWalked}
-use Rattle.saturate.proofs.Turned.{turned-none, turned-alike, turned-set}
+use Rattle.saturate.proofs.Turned.{turned-none, turned-alike, turned-set, at-most-one}
 
 module _ (b : Book) (β : Bindings) where
   -- a visit leaves the other entries
@@ -161,9 +161,10 @@ module _ {rows roots names entries₀ lefts₀ rights₀ heads₀ next₀ : List
                   (sym (turned-visit b β es (walk b β i 0 es) i old here (λ k. sym (so .ahead i (omega arith) k)))));
             }
 
-        pub walking-more : t′ ≤ t + 1 → SameSizes entries lefts rights heads next entries′ lefts′ rights′ heads′ next′
+        pub walking-more : SameSizes entries lefts rights heads next entries′ lefts′ rights′ heads′ next′
             → Walking rows roots names entries₀ lefts₀ rights₀ heads₀ next₀ capacity m entries′ lefts′ rights′ heads′ next′ t′ (v .count) (i + 1)
-        walking-more one sizes = record { sizes = sizes-trans (h .sizes) sizes; few = omega (arith, h .few); so-far = walked-to }
+        walking-more sizes =
+            record { sizes = sizes-trans (h .sizes) sizes; few = omega (arith, h .few, at-most-one (v .turned && ltb i m)); so-far = walked-to }
 
   -- it has reached the end
   pub walking-all : count ≤ i → Whatever (ToWalk rows roots names entries₀ lefts₀ rights₀ heads₀ next₀ capacity m)

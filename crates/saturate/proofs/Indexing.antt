@@ -28,32 +28,11 @@ pub record IndexedTo (lefts rights heads next : List ℕ) (i : ℕ) (b : Book) (
   pub indexed : Indexed lefts rights heads next i
   pub names : SideNames b β (take i es) lefts rights
 
--- What holds at the loop's head.
+-- What holds at the loop's head, whatever the heads were before they were cleared.
 pub record Indexing (names entries lefts₀ rights₀ heads₀ next₀ : List ℕ) (m : ℕ) (lefts rights heads next : List ℕ) (i : ℕ) : Type 0 where
   pub sizes : SameSizes entries lefts₀ rights₀ heads₀ next₀ entries lefts rights heads next
   pub within : i ≤ m
-  pub so-far : Whatever (ToIndex names entries lefts₀ rights₀ heads₀ next₀ m) (IndexedTo lefts rights heads next i)
-
--- other heads will do
-pub other-heads : {names entries lefts rights heads next : List ℕ} {m : ℕ} {b : Book} {β : Bindings} {es : Table} (heads′ : List ℕ)
-    → length heads′ ≡ length heads → ToIndex names entries lefts rights heads next m b β es → ToIndex names entries lefts rights heads′ next m b β es
-other-heads heads′ size q =
-    let room = q .room in
-    record {
-      known = q .known;
-      count = q .count;
-      held = q .held;
-      left-term = q .left-term;
-      right-term = q .right-term;
-      room =
-          record {
-            lefts-fit = room .lefts-fit;
-            rights-fit = room .rights-fit;
-            next-fit = room .next-fit;
-            words = room .words;
-            all-heads = size ∙ room .all-heads;
-          };
-    }
+  pub so-far : (hs : List ℕ) → Whatever (ToIndex names entries lefts₀ rights₀ hs next₀ m) (IndexedTo lefts rights heads next i)
 
 pub indexing-none : (names entries lefts rights next : List ℕ) (m : ℕ) {heads : List ℕ} → heads ≡ noHeads
     → Indexing names entries lefts rights heads next m lefts rights heads next 0
@@ -61,7 +40,7 @@ indexing-none names entries lefts rights next m {heads} e =
     record {
       sizes = same-sizes entries lefts rights heads next;
       within = omega arith;
-      so-far = λ b β es q.
+      so-far = λ hs b β es q.
           record {
             indexed = indexed-none lefts rights heads next e (q .room .words);
             names =
@@ -96,19 +75,19 @@ module _ {names entries lefts rights heads next : List ℕ} {m : ℕ} {b : Book}
 module _ {names entries lefts₀ rights₀ heads₀ next₀ : List ℕ} {m : ℕ} {lefts rights heads next : List ℕ} {i : ℕ}
     (h : Indexing names entries lefts₀ rights₀ heads₀ next₀ m lefts rights heads next i) where
   -- there is room for the next pair
-  pub next-room : {b : Book} {β : Bindings} {es : Table} → ToIndex names entries lefts₀ rights₀ heads₀ next₀ m b β es → i < m
+  pub next-room : {hs : List ℕ} {b : Book} {β : Bindings} {es : Table} → ToIndex names entries lefts₀ rights₀ hs next₀ m b β es → i < m
       → Indexed lefts rights heads next i × ((i < length lefts) × (i < length rights) × (i < length next))
-  next-room q t =
+  next-room {hs} q t =
       let room = q .room in
       let sizes = h .sizes in
-      (h .so-far _ _ _ q .indexed, (omega arith, omega arith, omega arith))
+      (h .so-far hs _ _ _ q .indexed, (omega arith, omega arith, omega arith))
 
   -- one entry more
   module _ (t : i < m) (e : Row) (read : rowOf e ≡ take entryRowWords (drop (entryRowWords * i) entries))
       {lefts′ rights′ heads′ next′ : List ℕ} {k : ℕ} (pushed : Pushed lefts rights lefts′ rights′ heads′ next′ i (at names (e .left)) (at names (e .right)) k) where
-    indexed-more : (b : Book) (β : Bindings) (es : Table) → ToIndex names entries lefts₀ rights₀ heads₀ next₀ m b β es
+    indexed-more : (hs : List ℕ) (b : Book) (β : Bindings) (es : Table) → ToIndex names entries lefts₀ rights₀ hs next₀ m b β es
         → IndexedTo lefts′ rights′ heads′ next′ (i + 1) b β es
-    indexed-more b β es q =
+    indexed-more hs b β es q =
         let l : i < length es = here q t e read in
         let long : length (take i es) ≡ i = length-take-le i es (omega arith) in
         let more : take (i + 1) es ≡ take i es ++ entry es i ∷ [] = rw add-one (take-suc es i (holeAt 0 0 0) l) in
@@ -117,7 +96,7 @@ module _ {names entries lefts₀ rights₀ heads₀ next₀ : List ℕ} {m : ℕ
         let right : at names (e .right) ≡ name b β (entry es i .right) =
         q .known .is-name _ (right-lt q t e read) ∙ ap (name b β) (right-same q t e read) in
         let room = next-room q t .1 in
-        let new = names-more (h .so-far b β es q .names) (entry es i) (q .left-term i l) (q .right-term i l) (rw long (room .0)) (rw long (room .1)) in
+        let new = names-more (h .so-far hs b β es q .names) (entry es i) (q .left-term i l) (q .right-term i l) (rw long (room .0)) (rw long (room .1)) in
         record {
           indexed = rw add-one (pushed .indexed);
           names = rw (more, pushed .left, pushed .right, left, right) (rw long at new);
@@ -128,8 +107,8 @@ module _ {names entries lefts₀ rights₀ heads₀ next₀ : List ℕ} {m : ℕ
     indexing-more sizes = record { sizes = sizes-trans (h .sizes) sizes; within = omega arith; so-far = indexed-more }
 
   -- all entries are indexed
-  pub indexing-all : m ≤ i → Whatever (ToIndex names entries lefts₀ rights₀ heads₀ next₀ m) (IsIndexed lefts rights heads next m)
-  indexing-all l b β es q =
-      let done = h .so-far b β es q in
+  pub indexing-all : (hs : List ℕ) → m ≤ i → Whatever (ToIndex names entries lefts₀ rights₀ hs next₀ m) (IsIndexed lefts rights heads next m)
+  indexing-all hs l b β es q =
+      let done = h .so-far hs b β es q in
       let end : i ≡ m = omega (arith, h .within) in
       record { indexed = rw end at (done .indexed); names = rw (take-all i es (omega (arith, q .count))) at (done .names) }

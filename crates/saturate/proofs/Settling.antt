@@ -22,15 +22,7 @@ use Rattle.saturate.specs.Steps.{ToSettle}
 -- A row and an entry with another same-as.
 abbrev pub resameRow : Row → ℕ → Row
 resameRow e k =
-    record {
-      left = e .left;
-      right = e .right;
-      kind = e .kind;
-      symbol = e .symbol;
-      count = e .count;
-      arguments = e .arguments;
-      «same_as» = k;
-    }
+    record { left = e .left; right = e .right; kind = e .kind; symbol = e .symbol; count = e .count; arguments = e .arguments; «same_as» = k }
 
 abbrev resame : Entry → ℕ → Entry
 resame x k = record { left = x .left; right = x .right; kind = x .kind; sameAs = k }

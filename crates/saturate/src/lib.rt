@@ -43,12 +43,12 @@ pub fn walk(
     roots: &[u32],
     names: &[u32],
     entries: &mut [u32],
+    capacity: usize,
+    m: usize,
     lefts: &mut [u32],
     rights: &mut [u32],
     heads: &mut [u32],
     next: &mut [u32],
-    capacity: usize,
-    m: usize,
 ) -> Walked
     requires { ⌜ GivenTable (ToWalk (now rows) (now roots) (now names) (now entries) (now lefts) (now rights) (now heads) (now next) capacity m) ⌝ }
     ensures { λ w. ⌜ Whatever (ToWalk (now (rows .entry)) (now (roots .entry)) (now (names .entry)) (now (entries .entry)) (now (lefts .entry)) (now (rights .entry)) (now (heads .entry)) (now (next .entry)) capacity m)
@@ -58,7 +58,19 @@ pub fn walk(
     let mut count = m;
     let mut i = 0;
     while i < count {
-        let v = table::visit(rows, roots, names, entries, lefts, rights, heads, next, capacity, count, i);
+        let v = table::visit(
+            rows,
+            roots,
+            names,
+            entries,
+            capacity,
+            count,
+            i,
+            lefts,
+            rights,
+            heads,
+            next,
+        );
         if v.full {
             return Walked {
                 turned,
@@ -80,7 +92,14 @@ pub fn walk(
 }
 
 // Sets same-as of the `m` entries: of each, the first entry with its two names.
-pub fn settle(entries: &mut [u32], lefts: &[u32], rights: &[u32], heads: &[u32], next: &[u32], m: usize)
+pub fn settle(
+    entries: &mut [u32],
+    lefts: &[u32],
+    rights: &[u32],
+    heads: &[u32],
+    next: &[u32],
+    m: usize,
+)
     requires { ⌜ GivenTable (ToSettle (now entries) (now lefts) (now rights) (now heads) (now next) m) ⌝ }
     ensures { λ _. ⌜ Whatever (ToSettle (now (entries .entry)) (now (lefts .entry)) (now (rights .entry)) (now (heads .entry)) (now (next .entry)) m)
         (λ b β es. HoldsTable (now (entries .exit)) (settle b β es)) ⌝ }

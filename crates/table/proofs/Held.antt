@@ -44,15 +44,26 @@ module _ {A : Type 0} (f : A → List ℕ) (w : ℕ) (d : A) (xs : List A) (h : 
       ap (concatMap f) (split-at xs i d l) ∙ concatMap-append f (take i xs) (getD xs i d ∷ drop (suc i) xs) in
       let new : concatMap f (set xs i x) ≡ before ++ (f x ++ behind) =
       ap (concatMap f) (set-split xs i x l) ∙ concatMap-append f (take i xs) (x ∷ drop (suc i) xs) in
-      rw (old, new, append-assoc before (f (getD xs i d) ++ behind) rest, paste-behind before _ (f x) (w * i) w (length-before i l) e,
-      append-assoc (f (getD xs i d)) behind rest, drop-at (f (getD xs i d)) (behind ++ rest) w (h i l), append-assoc before (f x ++ behind) rest,
-      append-assoc (f x) behind rest)
+      rw (
+        old,
+        new,
+        append-assoc before (f (getD xs i d) ++ behind) rest,
+        paste-behind before _ (f x) (w * i) w (length-before i l) e,
+        append-assoc (f (getD xs i d)) behind rest,
+        drop-at (f (getD xs i d)) (behind ++ rest) w (h i l),
+        append-assoc before (f x ++ behind) rest,
+        append-assoc (f x) behind rest,
+      )
 
   row-behind : (rest : List ℕ) → paste (concatMap f xs ++ rest) (w * length xs) (f x) w ≡ concatMap f (xs ++ x ∷ []) ++ drop w rest
   unfolding concatMap
   row-behind rest =
-      rw (paste-behind (concatMap f xs) rest (f x) (w * length xs) w (length-rows f w d xs h) e, concatMap-append f xs (x ∷ []),
-      append-nil (f x), append-assoc (concatMap f xs) (f x) (drop w rest))
+      rw (
+        paste-behind (concatMap f xs) rest (f x) (w * length xs) w (length-rows f w d xs h) e,
+        concatMap-append f xs (x ∷ []),
+        append-nil (f x),
+        append-assoc (concatMap f xs) (f x) (drop w rest),
+      )
 
 -- a table with entry i set, or with one entry more, has rows of one width where the new entry has
 wide-set : (es : Table) (i : ℕ) (e : Entry) → Wide entryWords entryRowWords (holeAt 0 0 0) es → length (entryWords e) ≡ entryRowWords

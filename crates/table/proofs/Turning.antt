@@ -155,8 +155,15 @@ module _ {rows names entries lefts rights heads next : List ℕ} {capacity m i :
       unfolding rowOf entryWords kindWords
       turned-row =
           let wide = q .stands .held .wide i here in
-          rw (row-left e (entry es i) (q .is-entry) wide, row-right e (entry es i) (q .is-entry) wide, row-same-as e (entry es i) (q .is-entry) wide,
-          ← applied-symbol rows l left-app, ← arity, ← args-length, done .their-entries f)
+          rw (
+            row-left e (entry es i) (q .is-entry) wide,
+            row-right e (entry es i) (q .is-entry) wide,
+            row-same-as e (entry es i) (q .is-entry) wide,
+            ← applied-symbol rows l left-app,
+            ← arity,
+            ← args-length,
+            done .their-entries f,
+          )
 
       turned-wide : length (entryWords turnedEntry) ≡ entryRowWords
       unfolding kindArguments

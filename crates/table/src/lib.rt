@@ -33,14 +33,14 @@ pub struct Visited {
 pub fn place(
     names: &[u32],
     entries: &mut [u32],
-    lefts: &mut [u32],
-    rights: &mut [u32],
-    heads: &mut [u32],
-    next: &mut [u32],
     capacity: usize,
     m: usize,
     l: u32,
     r: u32,
+    lefts: &mut [u32],
+    rights: &mut [u32],
+    heads: &mut [u32],
+    next: &mut [u32],
 ) -> Placed
     requires { ⌜ GivenTable (ToPlace (now names) (now entries) (now lefts) (now rights) (now heads) (now next) capacity m l r) ⌝ }
     ensures { λ p. ⌜ Whatever (ToPlace (now (names .entry)) (now (entries .entry)) (now (lefts .entry)) (now (rights .entry)) (now (heads .entry)) (now (next .entry)) capacity m l r)
@@ -85,14 +85,14 @@ pub fn place(
 fn place_all(
     names: &[u32],
     entries: &mut [u32],
-    lefts: &mut [u32],
-    rights: &mut [u32],
-    heads: &mut [u32],
-    next: &mut [u32],
     capacity: usize,
     m: usize,
     ls: &[u32],
     rs: &[u32],
+    lefts: &mut [u32],
+    rights: &mut [u32],
+    heads: &mut [u32],
+    next: &mut [u32],
 ) -> Arguments
     requires { ⌜ GivenTable (ToPlaceAll (now names) (now entries) (now lefts) (now rights) (now heads) (now next) capacity m (now ls) (now rs)) ⌝ }
     ensures { λ a. ⌜ Whatever (ToPlaceAll (now (names .entry)) (now (entries .entry)) (now (lefts .entry)) (now (rights .entry)) (now (heads .entry)) (now (next .entry)) capacity m (now (ls .entry)) (now (rs .entry)))
@@ -102,7 +102,18 @@ fn place_all(
     let mut count = m;
     let mut j = 0;
     while j < ls.len() {
-        let p = place(names, entries, lefts, rights, heads, next, capacity, count, ls[j], rs[j]);
+        let p = place(
+            names,
+            entries,
+            capacity,
+            count,
+            ls[j],
+            rs[j],
+            lefts,
+            rights,
+            heads,
+            next,
+        );
         if p.full {
             return Arguments {
                 entries: numbers,
@@ -126,16 +137,16 @@ fn turn(
     rows: &[u32],
     names: &[u32],
     entries: &mut [u32],
+    capacity: usize,
+    m: usize,
+    i: usize,
+    l: usize,
+    r: usize,
+    e: Entry,
     lefts: &mut [u32],
     rights: &mut [u32],
     heads: &mut [u32],
     next: &mut [u32],
-    capacity: usize,
-    m: usize,
-    i: usize,
-    e: Entry,
-    l: usize,
-    r: usize,
 ) -> Visited
     requires { ⌜ GivenTable (ToTurn (now rows) (now names) (now entries) (now lefts) (now rights) (now heads) (now next) capacity m i e l r) ⌝ }
     ensures { λ v. ⌜ Whatever (ToTurn (now (rows .entry)) (now (names .entry)) (now (entries .entry)) (now (lefts .entry)) (now (rights .entry)) (now (heads .entry)) (now (next .entry)) capacity m i e l r)
@@ -149,7 +160,18 @@ fn turn(
     let rs = right + 2;
     let ls_end = ls + arity as usize;
     let rs_end = rs + rows[right + 1] as usize;
-    let args = place_all(names, entries, lefts, rights, heads, next, capacity, m, &rows[ls..ls_end], &rows[rs..rs_end]);
+    let args = place_all(
+        names,
+        entries,
+        capacity,
+        m,
+        &rows[ls..ls_end],
+        &rows[rs..rs_end],
+        lefts,
+        rights,
+        heads,
+        next,
+    );
     let count = args.count;
     if args.full {
         return Visited {
@@ -182,13 +204,13 @@ pub fn visit(
     roots: &[u32],
     names: &[u32],
     entries: &mut [u32],
+    capacity: usize,
+    m: usize,
+    i: usize,
     lefts: &mut [u32],
     rights: &mut [u32],
     heads: &mut [u32],
     next: &mut [u32],
-    capacity: usize,
-    m: usize,
-    i: usize,
 ) -> Visited
     requires { ⌜ GivenTable (ToVisit (now rows) (now roots) (now names) (now entries) (now lefts) (now rights) (now heads) (now next) capacity m i) ⌝ }
     ensures { λ v. ⌜ Whatever (ToVisit (now (rows .entry)) (now (roots .entry)) (now (names .entry)) (now (entries .entry)) (now (lefts .entry)) (now (rights .entry)) (now (heads .entry)) (now (next .entry)) capacity m i)
@@ -213,5 +235,19 @@ pub fn visit(
             full: false,
         };
     }
-    turn(rows, names, entries, lefts, rights, heads, next, capacity, m, i, e, l, r)
+    turn(
+        rows,
+        names,
+        entries,
+        capacity,
+        m,
+        i,
+        l,
+        r,
+        e,
+        lefts,
+        rights,
+        heads,
+        next,
+    )
 }

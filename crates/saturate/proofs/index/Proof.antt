@@ -4,7 +4,7 @@ use mathlib.Core.Path.{refl}
 use Prim.Native.Nat.{_-_}
 use native.Mathlib.Omega.{arith}
 use borrow.Author.Needs.{needs}
-use Rattle.saturate.proofs.Indexing.{Indexing, other-heads, indexing-none, left-lt, right-lt, next-room, indexing-more, indexing-all}
+use Rattle.saturate.proofs.Indexing.{Indexing, indexing-none, left-lt, right-lt, next-room, indexing-more, indexing-all}
 use Rattle.saturate.proofs.index.Statement.{statement}
 use Rattle.saturate.proofs.index.Tie as tie
 
@@ -41,7 +41,7 @@ shared-slice-read-right c =
 
 push-requires : tie.Need-push-requires Inv-loop μ-loop
 push-requires c κs =
-    next-room (c .before .before .before .before .before .before .before .before .before .before .loop .inv) (other-heads _ (c .before .before .before .before .before .before .before .before .before .before .before .before .before .clear .kept .0) (c .before .before .before .before .before .before .before .before .before .before .before .before .before .before .before .before .before .before .before .before .before .pre .known)) (c .before .before .before .before .before .before .before .before .before .loop-test .taken)
+    next-room (c .before .before .before .before .before .before .before .before .before .before .loop .inv) (c .before .before .before .before .before .before .before .before .before .before .before .before .before .before .before .before .before .before .before .before .before .pre .known) (c .before .before .before .before .before .before .before .before .before .loop-test .taken)
 
 loop-again : tie.Need-loop-again Inv-loop μ-loop
 loop-again c =
@@ -50,7 +50,7 @@ loop-again c =
     (record { entries-size = refl; left-size = k .0; right-size = k .1 .0; heads-size = k .1 .1 .0; next-size = k .1 .1 .1 .0 })
 
 returns : tie.Need-returns Inv-loop μ-loop
-returns c b β es q = indexing-all (c .before .loop .inv) (c .loop-test .left) b β es (other-heads _ (c .before .before .before .before .clear .kept .0) q)
+returns c = indexing-all (c .before .loop .inv) _ (c .loop-test .left)
 
 pub index-spec : {M : Type 1} → statement M
 index-spec =

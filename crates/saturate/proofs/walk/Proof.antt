@@ -13,11 +13,11 @@ use Rattle.saturate.proofs.walk.Statement.{statement}
 use Rattle.saturate.proofs.walk.Tie as tie
 
 abbrev Inv-loop : tie.InvT-loop
-Inv-loop rows roots names entries₀ lefts₀ rights₀ heads₀ next₀ capacity m turned₀ count₀ i₀ entries lefts rights heads next turned count i =
+Inv-loop rows roots names entries₀ capacity m lefts₀ rights₀ heads₀ next₀ turned₀ count₀ i₀ entries lefts rights heads next turned count i =
     Walking rows roots names entries₀ lefts₀ rights₀ heads₀ next₀ capacity m entries lefts rights heads next turned count i
 
 abbrev μ-loop : tie.MeasureT-loop
-μ-loop rows roots names entries₀ lefts₀ rights₀ heads₀ next₀ capacity m turned₀ count₀ i₀ entries lefts rights heads next turned count i =
+μ-loop rows roots names entries₀ capacity m lefts₀ rights₀ heads₀ next₀ turned₀ count₀ i₀ entries lefts rights heads next turned count i =
     capacity - i
 
 loop-holds : tie.Need-loop-holds Inv-loop μ-loop
@@ -42,6 +42,7 @@ loop-less c = omega (arith, count-few (c .before .before .before .before .before
 loop-again : tie.Need-loop-again Inv-loop μ-loop
 loop-again c =
     let k = c .before .before .before .before .before .before .before .before .before .before .before .before .visit .kept .1 .1 .1 in
+    let a = k .1 .1 .1 .1 in
     let t = c .before .before .before .before .before .before .before .before .before .before .before .before .before .before .before .before .before .before .before .loop .turned in
     let x = c .before .before .before .before .before .before .before .before .before .before .before .before .visit .result .turned in
     let y = ltb (c .before .before .before .before .before .before .before .before .before .before .before .before .before .before .before .before .before .before .before .loop .i) (c .before .before .before .before .before .before .before .before .before .before .before .before .before .before .before .before .before .before .before .before .before .before .before .before .before .before .before .before .args .m) in
@@ -50,7 +51,7 @@ loop-again c =
     (λ w. ⊎-elim (λ u. not-second x y t (u .1 .left) (w .1)) (λ u. not-first x y t (u .left) (w .1)) (w .0 .came))
     (c .if2 .came) in
     walking-more (c .before .before .before .before .before .before .before .before .before .before .before .before .before .before .before .before .before .before .before .loop .inv) (c .before .before .before .before .before .before .before .before .before .before .before .before .before .before .before .before .before .before .loop-test .taken) (c .before .before .before .before .before .before .before .before .before .before .before .before .visit .ensures) (c .before .if1 .left) counted
-    (record { entries-size = k .0; left-size = k .1 .0; right-size = k .1 .1 .0; heads-size = k .1 .1 .1 .0; next-size = k .1 .1 .1 .1 .0 })
+    (record { entries-size = k .0; left-size = a .0; right-size = a .1 .0; heads-size = a .1 .1 .0; next-size = a .1 .1 .1 .0 })
 
 -- it has ended
 returns-2 : tie.Need-returns-2 Inv-loop μ-loop

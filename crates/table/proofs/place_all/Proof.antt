@@ -9,11 +9,11 @@ use Rattle.table.proofs.place_all.Statement.{statement}
 use Rattle.table.proofs.place_all.Tie as tie
 
 abbrev Inv-loop : tie.InvT-loop
-Inv-loop names entries₀ lefts₀ rights₀ heads₀ next₀ capacity m ls rs numbers₀ count₀ j₀ entries lefts rights heads next numbers count j =
+Inv-loop names entries₀ capacity m ls rs lefts₀ rights₀ heads₀ next₀ numbers₀ count₀ j₀ entries lefts rights heads next numbers count j =
     PlacingAll names entries₀ lefts₀ rights₀ heads₀ next₀ capacity m ls rs entries lefts rights heads next numbers count j
 
 abbrev μ-loop : tie.MeasureT-loop
-μ-loop names entries₀ lefts₀ rights₀ heads₀ next₀ capacity m ls rs numbers₀ count₀ j₀ entries lefts rights heads next numbers count j =
+μ-loop names entries₀ capacity m ls rs lefts₀ rights₀ heads₀ next₀ numbers₀ count₀ j₀ entries lefts rights heads next numbers count j =
     length ls - j
 
 loop-holds : tie.Need-loop-holds Inv-loop μ-loop
@@ -32,8 +32,9 @@ loop-again : tie.Need-loop-again Inv-loop μ-loop
 loop-again c =
     let test = c .before .before .before .before .before .before .before .before .before .before .before .before .before .before .before .before .before .before .before in
     let k = c .before .before .before .before .before .before .before .before .before .before .before .place .kept .1 in
+    let a = k .1 .1 .1 .1 .1 in
     placing-more (test .before .loop .inv) (test .loop-test .taken) (c .before .before .before .before .before .before .before .before .before .before .before .place .ensures) (c .if1 .left)
-    (record { entries-size = k .0; left-size = k .1 .0; right-size = k .1 .1 .0; heads-size = k .1 .1 .1 .0; next-size = k .1 .1 .1 .1 .0 })
+    (record { entries-size = k .0; left-size = a .0; right-size = a .1 .0; heads-size = a .1 .1 .0; next-size = a .1 .1 .1 .0 })
 
 returns-2 : tie.Need-returns-2 Inv-loop μ-loop
 returns-2 c = placing-all (c .before .loop .inv) (c .loop-test .left)

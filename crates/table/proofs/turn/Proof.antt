@@ -26,10 +26,10 @@ add-rs-end-2 : tie.Need-add-rs-end-2
 add-rs-end-2 c = let q = c .before .before .before .before .before .before .before .before .before .before .pre .known in omega (arith, row-end (q .known) _ (q .right-term))
 
 part-place-all-end : tie.Need-part-place-all-end
-part-place-all-end c = let q = c .before .before .before .before .before .before .before .before .before .before .before .before .before .before .before .pre .known in omega (arith, row-end (q .known) _ (q .left-term))
+part-place-all-end c = let q = c .before .before .before .before .before .before .before .before .before .before .before .pre .known in omega (arith, row-end (q .known) _ (q .left-term))
 
 part-place-all-end-2 : tie.Need-part-place-all-end-2
-part-place-all-end-2 c = let q = c .before .before .before .before .before .before .before .before .before .before .before .before .before .before .before .before .pre .known in omega (arith, row-end (q .known) _ (q .right-term))
+part-place-all-end-2 c = let q = c .before .before .before .before .before .before .before .before .before .before .before .before .pre .known in omega (arith, row-end (q .known) _ (q .right-term))
 
 place-all-requires : tie.Need-place-all-requires
 place-all-requires c κs = let g = c .before .before .before .before .before .before .before .before .before .before .before .before .before .before .before .before .before .pre in record { book = g .book; bound = g .bound; table = g .table; known = to-place-all (g .known) }

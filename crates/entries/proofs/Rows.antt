@@ -9,7 +9,7 @@ use lib.ListN.{length, getD, take, drop}
 use lib.Dec.{eqb, ltb→lt}
 use Rattle.model.specs.Lists.{all, from}
 use Rattle.model.specs.Term.{var, arguments, Book, Bindings, root}
-use Rattle.model.specs.Table.{Entry, holeAt, entry}
+use Rattle.model.specs.Table.{Entry, entry}
 use Rattle.model.specs.Area.{termWords, entryRowWords, kindOk}
 use Rattle.theory.proofs.Lists.Laws.{and-left}
 use Rattle.theory.proofs.Soundness.Facts.{Formed, Acyclic}
@@ -97,14 +97,14 @@ unfolding argumentRight
 argument-none b β entries m i t u h = rw (length-tableOf entries m, le-ltb i m h)
 
 module _ {b : Book} {β : Bindings} {rows names entries : List ℕ} {m : ℕ} (k : Held b β rows names entries m) where
-  formed : Formed b β
+  pub formed : Formed b β
   formed = proper-facts b β (k .is-proper) .0
 
   acyclic : Acyclic b β
   acyclic = proper-facts b β (k .is-proper) .1
 
   -- term t is the node in row t
-  term-row : (t : ℕ) → t < length b → getD b t var ≡ nodeOf rows t
+  pub term-row : (t : ℕ) → t < length b → getD b t var ≡ nodeOf rows t
   term-row t l = ap (λ (c : Book). getD c t var) (k .is-book) ∙ getD-bookOf rows (length b) t l
 
   -- the arguments lie in the rows, and those of an application are terms

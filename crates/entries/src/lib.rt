@@ -65,7 +65,7 @@ fn arguments_ok(
 }
 
 // Whether the terms in rows `l` and `r` are applications of one symbol.
-fn alike(rows: &[u32], l: usize, r: usize) -> bool
+pub fn alike(rows: &[u32], l: usize, r: usize) -> bool
     requires { ⌜ (termWords * l < length (now rows)) × (termWords * r < length (now rows)) ⌝ }
     ensures { λ x. ⌜ x ≡ Term.alike (nodeOf (now (rows .entry)) l) (nodeOf (now (rows .entry)) r) ⌝ }
 {

@@ -41,11 +41,11 @@ module _ (b : Book) (β : Bindings) where
   place-cases es l r = place-at es l r (ltb (entryOf b β es l r) (length es)) refl
 
   -- placing a pair keeps the old entries whole
-  place-longer : (es : Table) (l r : ℕ) → Placed es l r → length es ≤ length (place b β es l r)
+  pub place-longer : (es : Table) (l r : ℕ) → Placed es l r → length es ≤ length (place b β es l r)
   place-longer es l r (there q p) = rw p (omega arith)
   place-longer es l r (appended q p) = rw p (simp length-append (omega arith))
 
-  place-old : (es : Table) (l r i : ℕ) → i < length es → Placed es l r → entry (place b β es l r) i ≡ entry es i
+  pub place-old : (es : Table) (l r i : ℕ) → i < length es → Placed es l r → entry (place b β es l r) i ≡ entry es i
   place-old es l r i h (there q p) = rw p
   place-old es l r i h (appended q p) = rw p (List·getD-append es _ _ i h)
 
@@ -58,7 +58,7 @@ module _ (b : Book) (β : Bindings) where
       (rw (p, ← e) (getD-append-seam es _ _ _), q ∙ e)
 
   -- the lowest entry with the values of a placed pair exists; an appended one is it
-  place-found : (es : Table) (l r : ℕ) → Placed es l r
+  pub place-found : (es : Table) (l r : ℕ) → Placed es l r
       → (entryOf b β (place b β es l r) l r ≡ entryOf b β es l r) × (entryOf b β es l r < length (place b β es l r))
   unfolding entryOf first
   place-found es l r (there q p) = rw p (refl, q)
@@ -68,7 +68,7 @@ module _ (b : Book) (β : Bindings) where
       rw p (omega arith, simp length-append (omega arith))
 
   -- placing argument pairs keeps the old entries whole
-  placeAll-longer : (es : Table) (ls rs : List ℕ) → length es ≤ length (placeAll b β es ls rs)
+  pub placeAll-longer : (es : Table) (ls rs : List ℕ) → length es ≤ length (placeAll b β es ls rs)
   unfolding placeAll
   placeAll-longer es [] rs = omega arith
   placeAll-longer es (l ∷ ls) [] = omega arith

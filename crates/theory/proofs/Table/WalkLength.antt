@@ -21,7 +21,7 @@ not-both x y p q h = true≢false (rw (p, q) at h)
 
 module _ (b : Book) (β : Bindings) where
   -- a visit of an entry that is not to turn leaves the table
-  visit-idle : (es : Table) (i : ℕ) → toTurn b β (entry es i) ≡ false → visit b β es i ≡ es
+  pub visit-idle : (es : Table) (i : ℕ) → toTurn b β (entry es i) ≡ false → visit b β es i ≡ es
   visit-idle es i h =
       elim (visit-cases b β es i) [
         | inl p ↦ p .1
@@ -34,7 +34,7 @@ module _ (b : Book) (β : Bindings) where
   walk-idle-at k i es h g (on p e) = rw (e, h p) (g p)
   walk-idle-at k i es h g (over p e) = e
 
-  walk-idle : (k i : ℕ) (es : Table) → ((j : ℕ) → i ≤ j → j < length es → toTurn b β (entry es j) ≡ false) → walk b β k i es ≡ es
+  pub walk-idle : (k i : ℕ) (es : Table) → ((j : ℕ) → i ≤ j → j < length es → toTurn b β (entry es j) ≡ false) → walk b β k i es ≡ es
   unfolding walk
   walk-idle zero i es h = refl
   walk-idle (suc k) i es h =
@@ -51,7 +51,7 @@ module _ (b : Book) (β : Bindings) where
   walk-split-at k d i es h (over p e) (on q f) = absurd (omega arith)
   walk-split-at k d i es h (over p e) (over q f) = rw (e, f) (sym (walk-idle d _ es (λ j o u. absurd (omega arith))))
 
-  walk-split : (k d i : ℕ) (es : Table) → walk b β (k + d) i es ≡ walk b β d (i + k) (walk b β k i es)
+  pub walk-split : (k d i : ℕ) (es : Table) → walk b β (k + d) i es ≡ walk b β d (i + k) (walk b β k i es)
   unfolding walk
   walk-split zero d i es = rw (zero-add, add-zero)
   walk-split (suc k) d i es =
@@ -66,7 +66,7 @@ module _ (b : Book) (β : Bindings) where
       rw (e, walk-split k (n - k) 0 es) (walk-idle (n - k) (0 + k) (walk b β k 0 es) (λ j o q. h j q))
 
   -- and do not shorten it
-  walk-longer : (k n : ℕ) (es : Table) → k ≤ n → length (walk b β k 0 es) ≤ length (walk b β n 0 es)
+  pub walk-longer : (k n : ℕ) (es : Table) → k ≤ n → length (walk b β k 0 es) ≤ length (walk b β n 0 es)
   walk-longer k n es p =
       let e : n ≡ k + (n - k) = omega arith in
       rw (e, walk-split k (n - k) 0 es) (walk-extends b β (n - k) (0 + k) (walk b β k 0 es) .longer)

@@ -1,0 +1,114 @@
+-- Building the index of a table: after i entries their names are indexed. Assumes nothing.
+use mathlib.Core.Path.{_≡_, ap, _∙_}
+use mathlib.Core.List.{List, [], _∷_, _++_}
+use Prim.Native.Nat.{ℕ, suc, _+_, _*_, _≤_, _<_}
+use native.Mathlib.Nat.{not-suc-le-zero}
+use native.Mathlib.Numerals.{add-one}
+use native.Mathlib.Omega.{arith}
+use lib.ListN.{length, take, drop, set, length-set}
+use lib.Seq.{take-all, take-suc, length-take-le}
+use Rattle.model.specs.Term.{Book, Bindings, name}
+use Rattle.model.specs.Table.{Table, holeAt, entry}
+use Rattle.model.specs.Area.{entryRowWords}
+use Rattle.layout.specs.Rows.{at}
+use Rattle.pairs.specs.Index.{Indexed, noHeads, Pushed}
+use Rattle.pairs.proofs.Growth.{indexed-none}
+use Rattle.area.specs.Row.{rowOf}
+use Rattle.area.specs.declared.Entry.{Entry as Row}
+use Rattle.entries.proofs.Names.{SideNames}
+use Rattle.table.specs.Stands.{Whatever}
+use Rattle.table.proofs.Held.{held-row}
+use Rattle.table.proofs.Names.{names-more}
+use Rattle.table.proofs.Sizes.{SameSizes, same-sizes, sizes-trans}
+use Rattle.table.proofs.Turning.{row-left, row-right}
+use Rattle.saturate.specs.Steps.{ToIndex, IsIndexed}
+
+-- The first i entries are indexed.
+pub record IndexedTo (lefts rights heads next : List ℕ) (i : ℕ) (b : Book) (β : Bindings) (es : Table) : Type 0 where
+  pub indexed : Indexed lefts rights heads next i
+  pub names : SideNames b β (take i es) lefts rights
+
+-- What holds at the loop's head, whatever the heads were before they were cleared.
+pub record Indexing (names entries lefts₀ rights₀ heads₀ next₀ : List ℕ) (m : ℕ) (lefts rights heads next : List ℕ) (i : ℕ) : Type 0 where
+  pub sizes : SameSizes entries lefts₀ rights₀ heads₀ next₀ entries lefts rights heads next
+  pub within : i ≤ m
+  pub so-far : (hs : List ℕ) → Whatever (ToIndex names entries lefts₀ rights₀ hs next₀ m) (IndexedTo lefts rights heads next i)
+
+pub indexing-none : (names entries lefts rights next : List ℕ) (m : ℕ) {heads : List ℕ} → heads ≡ noHeads
+    → Indexing names entries lefts rights heads next m lefts rights heads next 0
+indexing-none names entries lefts rights next m {heads} e =
+    record {
+      sizes = same-sizes entries lefts rights heads next;
+      within = omega arith;
+      so-far = λ hs b β es q.
+          record {
+            indexed = indexed-none lefts rights heads next e (q .room .words);
+            names =
+                record {
+                  left-term = λ j l. absurd (not-suc-le-zero l);
+                  right-term = λ j l. absurd (not-suc-le-zero l);
+                  left-name = λ j l. absurd (not-suc-le-zero l);
+                  right-name = λ j l. absurd (not-suc-le-zero l);
+                };
+          };
+    }
+
+-- the sides of an entry that is read are terms
+module _ {names entries lefts rights heads next : List ℕ} {m : ℕ} {b : Book} {β : Bindings} {es : Table}
+    (q : ToIndex names entries lefts rights heads next m b β es) {i : ℕ} (t : i < m) (e : Row)
+    (read : rowOf e ≡ take entryRowWords (drop (entryRowWords * i) entries)) where
+  here : i < length es
+  here = omega (arith, q .count)
+
+  left-same : e .left ≡ entry es i .left
+  left-same = row-left e (entry es i) (read ∙ held-row (q .held) i here) (q .held .wide i here)
+
+  right-same : e .right ≡ entry es i .right
+  right-same = row-right e (entry es i) (read ∙ held-row (q .held) i here) (q .held .wide i here)
+
+  pub left-lt : e .left < length b
+  left-lt = rw left-same (q .left-term i here)
+
+  pub right-lt : e .right < length b
+  right-lt = rw right-same (q .right-term i here)
+
+module _ {names entries lefts₀ rights₀ heads₀ next₀ : List ℕ} {m : ℕ} {lefts rights heads next : List ℕ} {i : ℕ}
+    (h : Indexing names entries lefts₀ rights₀ heads₀ next₀ m lefts rights heads next i) where
+  -- there is room for the next pair
+  pub next-room : {hs : List ℕ} {b : Book} {β : Bindings} {es : Table} → ToIndex names entries lefts₀ rights₀ hs next₀ m b β es → i < m
+      → Indexed lefts rights heads next i × ((i < length lefts) × (i < length rights) × (i < length next))
+  next-room {hs} q t =
+      let room = q .room in
+      let sizes = h .sizes in
+      (h .so-far hs _ _ _ q .indexed, (omega arith, omega arith, omega arith))
+
+  -- one entry more
+  module _ (t : i < m) (e : Row) (read : rowOf e ≡ take entryRowWords (drop (entryRowWords * i) entries))
+      {lefts′ rights′ heads′ next′ : List ℕ} {k : ℕ} (pushed : Pushed lefts rights lefts′ rights′ heads′ next′ i (at names (e .left)) (at names (e .right)) k) where
+    indexed-more : (hs : List ℕ) (b : Book) (β : Bindings) (es : Table) → ToIndex names entries lefts₀ rights₀ hs next₀ m b β es
+        → IndexedTo lefts′ rights′ heads′ next′ (i + 1) b β es
+    indexed-more hs b β es q =
+        let l : i < length es = here q t e read in
+        let long : length (take i es) ≡ i = length-take-le i es (omega arith) in
+        let more : take (i + 1) es ≡ take i es ++ entry es i ∷ [] = rw add-one (take-suc es i (holeAt 0 0 0) l) in
+        let left : at names (e .left) ≡ name b β (entry es i .left) =
+        q .known .is-name _ (left-lt q t e read) ∙ ap (name b β) (left-same q t e read) in
+        let right : at names (e .right) ≡ name b β (entry es i .right) =
+        q .known .is-name _ (right-lt q t e read) ∙ ap (name b β) (right-same q t e read) in
+        let room = next-room q t .1 in
+        let new = names-more (h .so-far hs b β es q .names) (entry es i) (q .left-term i l) (q .right-term i l) (rw long (room .0)) (rw long (room .1)) in
+        record {
+          indexed = rw add-one (pushed .indexed);
+          names = rw (more, pushed .left, pushed .right, left, right) (rw long at new);
+        }
+
+    pub indexing-more : SameSizes entries lefts rights heads next entries lefts′ rights′ heads′ next′
+        → Indexing names entries lefts₀ rights₀ heads₀ next₀ m lefts′ rights′ heads′ next′ (i + 1)
+    indexing-more sizes = record { sizes = sizes-trans (h .sizes) sizes; within = omega arith; so-far = indexed-more }
+
+  -- all entries are indexed
+  pub indexing-all : (hs : List ℕ) → m ≤ i → Whatever (ToIndex names entries lefts₀ rights₀ hs next₀ m) (IsIndexed lefts rights heads next m)
+  indexing-all hs l b β es q =
+      let done = h .so-far hs b β es q in
+      let end : i ≡ m = omega (arith, h .within) in
+      record { indexed = rw end at (done .indexed); names = rw (take-all i es (omega (arith, q .count))) at (done .names) }

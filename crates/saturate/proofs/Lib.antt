@@ -1,0 +1,4 @@
+pub mod Indexing
+pub mod Settling
+pub mod Turned
+pub mod Walking

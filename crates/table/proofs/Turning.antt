@@ -1,0 +1,188 @@
+-- Turning an entry in slices: its argument pairs are placed, and its row is put anew. Assumes nothing.
+use mathlib.Core.Path.{_≡_, refl, ap, sym, _∙_}
+use mathlib.Core.List.{List, [], _∷_, _++_}
+use mathlib.Core.Bool.{true, false, true≢false}
+use Prim.Native.Nat.{ℕ, suc, _+_, _*_, _-_, _≤_, _<_}
+use native.Mathlib.Nat.{add-sub-cancel-left}
+use native.Mathlib.Omega.{arith}
+use lib.ListN.{length, getD, take, drop, length-append, length-drop}
+use lib.Seq.{paste, getD-at, length-take-le}
+use Rattle.model.specs.Limits.{maxArity}
+use Rattle.model.specs.Lists.{pairwise, padded}
+use Rattle.model.specs.Term.{Node, var, symbol, arguments, alike, Book, Bindings}
+use Rattle.model.specs.Table.{common, Entry, Table, entry, entryOf, turn}
+use Rattle.model.specs.Area.{termWords, entryRowWords, entryWords, kindWords}
+use Rattle.theory.proofs.Lists.Laws.{true-T, length-pairwise}
+use Rattle.theory.proofs.Area.Rows.{kindArguments, width-entry}
+use Rattle.theory.proofs.Table.Place.{grown, turn-length, turn-grown, placeAll-longer}
+use Rattle.layout.specs.Rows.{at, nodeOf}
+use Rattle.layout.proofs.Rows.{node-app}
+use Rattle.area.specs.Row.{rowOf}
+use Rattle.area.specs.declared.Entry.{Entry as Row}
+use Rattle.entries.specs.Known.{Held}
+use Rattle.entries.proofs.Rows.{formed, term-row, row-end}
+use Rattle.entries.proofs.EntryKind.{left-applied, right-applied, arguments-known}
+use Rattle.table.specs.Stands.{HoldsTable, Stands, Reaches, GivenTable, Whatever}
+use Rattle.table.specs.Steps.{ToPlaceAll, ArePlaced, ToTurn, IsTurned}
+use Rattle.table.specs.declared.Arguments.{Arguments}
+use Rattle.table.proofs.Held.{held-set}
+use Rattle.table.proofs.Names.{names-same}
+use Rattle.table.proofs.Placing.{stands-reaches}
+
+-- a row with the words of an entry has its sides and its same-as
+module _ (e : Row) (x : Entry) (same : rowOf e ≡ entryWords x) (wide : length (entryWords x) ≡ entryRowWords) where
+  pub row-left : e .left ≡ x .left
+  unfolding rowOf entryWords
+  row-left = ap (λ (ws : List ℕ). getD ws 0 0) same
+
+  pub row-right : e .right ≡ x .right
+  unfolding rowOf entryWords
+  row-right = ap (λ (ws : List ℕ). getD ws 1 0) same
+
+  pub row-kind : e .kind ≡ getD (entryWords x) 2 0
+  unfolding rowOf
+  row-kind = ap (λ (ws : List ℕ). getD ws 2 0) same
+
+  row-same-as : e .«same_as» ≡ x .sameAs
+  unfolding rowOf entryWords
+  row-same-as =
+      let long : length (e .arguments) ≡ 8 = omega (arith, simp length-append at (ap length same ∙ wide)) in
+      let kind : length (kindWords (x .kind)) ≡ 11 = omega (arith, simp length-append at wide) in
+      sym (getD-at (e .arguments) (e .«same_as») [] 0 8 long) ∙ ap (λ (ws : List ℕ). getD ws 13 0) same ∙
+      getD-at (kindWords (x .kind)) (x .sameAs) [] 0 11 kind
+
+-- The words behind the count in the row of term t, as they are lent.
+abbrev pub lent : List ℕ → ℕ → List ℕ
+lent rows t = take (termWords * t + 2 + at rows (termWords * t + 1) - (termWords * t + 2)) (drop (termWords * t + 2) rows)
+
+-- an application has them for its arguments
+module _ (rows : List ℕ) (t : ℕ) (d : at rows (termWords * t) ≡ 0 → ⊥) where
+  lent-arguments : lent rows t ≡ arguments (nodeOf rows t)
+  unfolding arguments
+  lent-arguments = rw (node-app rows t d, add-sub-cancel-left)
+
+  applied-symbol : symbol (nodeOf rows t) ≡ at rows (termWords * t) - 1
+  unfolding symbol
+  applied-symbol = rw (node-app rows t d)
+
+module _ {rows names entries lefts rights heads next : List ℕ} {capacity m i : ℕ} {e : Row} {l r : ℕ} {b : Book} {β : Bindings} {es : Table}
+    (q : ToTurn rows names entries lefts rights heads next capacity m i e l r b β es) where
+  abbrev n : Node
+  n = nodeOf rows l
+
+  abbrev o : Node
+  o = nodeOf rows r
+
+  pub left-app : at rows (termWords * l) ≡ 0 → ⊥
+  left-app = left-applied rows l r (q .are-alike)
+
+  right-app : at rows (termWords * r) ≡ 0 → ⊥
+  right-app = right-applied rows l r (q .are-alike)
+
+  -- the terms have as many arguments, and those are few
+  counts : length (arguments n) ≡ length (arguments o)
+  counts =
+      let left = term-row (q .known) l (q .left-term) in
+      let right = term-row (q .known) r (q .right-term) in
+      rw (left, right) at (formed (q .known) .one-arity l r (q .left-term) (q .right-term) (rw (left, right) (true-T (alike n o) (q .are-alike))))
+
+  few : length (arguments n) ≤ maxArity
+  few = rw (term-row (q .known) l (q .left-term)) at (formed (q .known) .small-arity l (q .left-term))
+
+  arity : length (arguments n) ≡ at rows (termWords * l + 1)
+  unfolding arguments
+  arity =
+      rw (node-app rows l left-app)
+      (length-take-le (at rows (termWords * l + 1)) (drop (termWords * l + 2) rows) (rw length-drop (omega (arith, row-end (q .known) l (q .left-term)))))
+
+  -- what placing the argument pairs asks
+  pub to-place-all : ToPlaceAll names entries lefts rights heads next capacity m (lent rows l) (lent rows r) b β es
+  to-place-all =
+      let args = arguments-known (q .known) l r (q .left-term) (q .right-term) (q .are-alike) in
+      record {
+        known = args .0;
+        stands = q .stands;
+        left-terms = args .1;
+        right-terms = args .2;
+        pairs = rw (lent-arguments rows l left-app, lent-arguments rows r right-app) counts;
+        few = rw (lent-arguments rows l left-app) few;
+      }
+
+  module _ {a : Arguments} {entries′ lefts′ rights′ heads′ next′ : List ℕ}
+      (placed : ArePlaced entries′ lefts′ rights′ heads′ next′ capacity (lent rows l) (lent rows r) a b β es) where
+    done : ArePlaced entries′ lefts′ rights′ heads′ next′ capacity (arguments n) (arguments o) a b β es
+    done = rw (lent-arguments rows l left-app, lent-arguments rows r right-app) at placed
+
+    -- they need entries beyond the capacity
+    pub turn-full : a .full ≡ true → IsTurned rows entries′ lefts′ rights′ heads′ next′ capacity i l r (record { turned = true; count = a .count; full = true }) b β es
+    turn-full f =
+        record {
+          reaches =
+              record { is-full = sym f ∙ done .reaches .is-full ∙ rw (turn-length b β es i n o); stands = λ x. absurd (true≢false x) };
+          turned = refl;
+        }
+
+    -- they are placed
+    module _ (f : a .full ≡ false) where
+      abbrev args : List ℕ
+      args = pairwise (entryOf b β (grown b β es i n o)) (arguments n) (arguments o)
+
+      abbrev turnedEntry : Entry
+      turnedEntry = record { left = entry es i .left; right = entry es i .right; kind = common (symbol n) args; sameAs = entry es i .sameAs }
+
+      abbrev turnedRow : Row
+      turnedRow =
+          record {
+            left = e .left;
+            right = e .right;
+            kind = 1;
+            symbol = at rows (termWords * l) - 1;
+            count = at rows (termWords * l + 1);
+            arguments = a .entries;
+            «same_as» = e .«same_as»;
+          }
+
+      here : i < length es
+      here = omega (arith, q .there, q .stands .count)
+
+      there : i < length (grown b β es i n o)
+      there = omega (arith, here, placeAll-longer b β es (arguments n) (arguments o))
+
+      args-length : length args ≡ length (arguments n)
+      args-length = length-pairwise _ (arguments n) (arguments o) counts
+
+      turned-row : rowOf turnedRow ≡ entryWords turnedEntry
+      unfolding rowOf entryWords kindWords
+      turned-row =
+          let wide = q .stands .held .wide i here in
+          rw (
+            row-left e (entry es i) (q .is-entry) wide,
+            row-right e (entry es i) (q .is-entry) wide,
+            row-same-as e (entry es i) (q .is-entry) wide,
+            ← applied-symbol rows l left-app,
+            ← arity,
+            ← args-length,
+            done .their-entries f,
+          )
+
+      turned-wide : length (entryWords turnedEntry) ≡ entryRowWords
+      unfolding kindArguments
+      turned-wide = width-entry turnedEntry (omega (arith, args-length, few))
+
+      module _ {entries″ : List ℕ} (put : entries″ ≡ paste entries′ (entryRowWords * i) (rowOf turnedRow) entryRowWords)
+          (size : length entries″ ≡ length entries′) where
+        turn-stands : Stands entries″ lefts′ rights′ heads′ next′ capacity (a .count) b β (turn b β es i (entry es i) n o)
+        unfolding turn
+        turn-stands =
+            let s = done .reaches .stands f in
+            record {
+              count = s .count ∙ sym (turn-length b β es i n o);
+              held = rw (put, turned-row) (held-set (s .held) turnedEntry turned-wide i there);
+              long = size ∙ s .long;
+              room = s .room;
+              indexed = s .indexed;
+              names = names-same (s .names) _ (turn-grown b β es i n o here) (turn-length b β es i n o);
+            }
+
+        pub turn-put : IsTurned rows entries″ lefts′ rights′ heads′ next′ capacity i l r (record { turned = true; count = a .count; full = false }) b β es
+        turn-put = record { reaches = stands-reaches turn-stands; turned = refl }

@@ -1,0 +1,69 @@
+-- The steps of a table in slices: what each asks, and what its answer and the slices are after it. Assumes nothing: these are
+-- definitions.
+use mathlib.Core.Path.{_≡_}
+use mathlib.Core.List.{List, []}
+use mathlib.Core.Bool.{true, false, _&&_}
+use Prim.Native.Nat.{ℕ, _<_, _≤_}
+use lib.ListN.{length}
+use Rattle.model.specs.Limits.{maxArity}
+use Rattle.model.specs.Lists.{pairwise, padded}
+use Rattle.model.specs.Term.{Book, Bindings, alike, root}
+use Rattle.model.specs.Table.{Table, isHole, entry, entryOf, place, placeAll, turn, visit}
+use Rattle.model.specs.Area.{entryWords}
+use Rattle.layout.specs.Rows.{nodeOf}
+use Rattle.area.specs.Row.{rowOf}
+use Rattle.area.specs.declared.Entry.{Entry}
+use Rattle.entries.specs.Known.{Held, Terms}
+use Rattle.table.specs.Stands.{KnownNames, KnownTerms, Stands, Reaches}
+use Rattle.table.specs.declared.Placed.{Placed}
+use Rattle.table.specs.declared.Arguments.{Arguments}
+use Rattle.table.specs.declared.Visited.{Visited}
+
+-- A pair of terms to be placed in a table of m entries.
+pub record ToPlace (names entries lefts rights heads next : List ℕ) (capacity m l r : ℕ) (b : Book) (β : Bindings) (es : Table) : Type 0 where
+  pub known : KnownNames names b β
+  pub stands : Stands entries lefts rights heads next capacity m b β es
+  pub left-term : l < length b
+  pub right-term : r < length b
+
+-- It is placed, and has its entry.
+pub record IsPlaced (entries lefts rights heads next : List ℕ) (capacity l r : ℕ) (p : Placed) (b : Book) (β : Bindings) (es : Table) : Type 0 where
+  pub reaches : Reaches entries lefts rights heads next capacity (p .count) (p .full) b β (place b β es l r)
+  pub its-entry : p .full ≡ false → p .entry ≡ entryOf b β (place b β es l r) l r
+
+-- Argument pairs to be placed, and placed: each has its entry.
+pub record ToPlaceAll (names entries lefts rights heads next : List ℕ) (capacity m : ℕ) (ls rs : List ℕ) (b : Book) (β : Bindings) (es : Table) : Type 0 where
+  pub known : KnownNames names b β
+  pub stands : Stands entries lefts rights heads next capacity m b β es
+  pub left-terms : Terms b ls
+  pub right-terms : Terms b rs
+  pub pairs : length ls ≡ length rs
+  pub few : length ls ≤ maxArity
+
+pub record ArePlaced (entries lefts rights heads next : List ℕ) (capacity : ℕ) (ls rs : List ℕ) (a : Arguments) (b : Book) (β : Bindings) (es : Table) : Type 0 where
+  pub reaches : Reaches entries lefts rights heads next capacity (a .count) (a .full) b β (placeAll b β es ls rs)
+  pub their-entries : a .full ≡ false → a .entries ≡ padded maxArity (pairwise (entryOf b β (placeAll b β es ls rs)) ls rs)
+
+-- An entry whose sides stand for the terms l and r, which are alike, to be turned, and turned.
+pub record ToTurn (rows names entries lefts rights heads next : List ℕ) (capacity m i : ℕ) (e : Entry) (l r : ℕ) (b : Book) (β : Bindings) (es : Table) : Type 0 where
+  pub known : Held b β rows names [] 0
+  pub stands : Stands entries lefts rights heads next capacity m b β es
+  pub there : i < m
+  pub is-entry : rowOf e ≡ entryWords (entry es i)
+  pub left-term : l < length b
+  pub right-term : r < length b
+  pub are-alike : alike (nodeOf rows l) (nodeOf rows r) ≡ true
+
+pub record IsTurned (rows entries lefts rights heads next : List ℕ) (capacity i l r : ℕ) (v : Visited) (b : Book) (β : Bindings) (es : Table) : Type 0 where
+  pub reaches : Reaches entries lefts rights heads next capacity (v .count) (v .full) b β (turn b β es i (entry es i) (nodeOf rows l) (nodeOf rows r))
+  pub turned : v .turned ≡ true
+
+-- An entry to be visited, and visited: whether it turned.
+pub record ToVisit (rows roots names entries lefts rights heads next : List ℕ) (capacity m i : ℕ) (b : Book) (β : Bindings) (es : Table) : Type 0 where
+  pub known : KnownTerms rows roots names b β
+  pub stands : Stands entries lefts rights heads next capacity m b β es
+  pub there : i < m
+
+pub record IsVisited (entries lefts rights heads next : List ℕ) (capacity i : ℕ) (v : Visited) (b : Book) (β : Bindings) (es : Table) : Type 0 where
+  pub reaches : Reaches entries lefts rights heads next capacity (v .count) (v .full) b β (visit b β es i)
+  pub turned : v .turned ≡ isHole (entry es i .kind) && alike (root b β (entry es i .left)) (root b β (entry es i .right))

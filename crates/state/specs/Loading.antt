@@ -1,0 +1,22 @@
+-- The slices into which an area's words are loaded. Assumes nothing: these are definitions.
+use mathlib.Core.Path.{_≡_}
+use mathlib.Core.List.{List}
+use Prim.Native.Nat.{ℕ, _*_}
+use lib.ListN.{length}
+use Rattle.model.specs.Limits.{Limits}
+use Rattle.model.specs.Area.{termWords, entryRowWords}
+use Rattle.layout.specs.Rows.{Loaded}
+
+-- Each slice has the words of its part, for an area of this capacity.
+pub record Sizes (lim : Limits) (capacity : ℕ) (rows bindings lines entries : List ℕ) : Type 0 where
+  pub rows-size : length rows ≡ termWords * lim .maxTerms
+  pub bindings-size : length bindings ≡ lim .maxTerms
+  pub lines-size : length lines ≡ lim .maxLines
+  pub entries-size : length entries ≡ entryRowWords * capacity
+
+-- The slices hold the words of the loaded state.
+pub record Words (w : Loaded) (rows bindings lines entries : List ℕ) : Type 0 where
+  pub is-rows : rows ≡ w .termRows
+  pub is-bindings : bindings ≡ w .bindingWords
+  pub is-lines : lines ≡ w .lineWords
+  pub is-entries : entries ≡ w .entryRows

@@ -1,0 +1,67 @@
+// The state of an area, loaded once and tested: the header, the words of each part, the values of the terms.
+
+ghost use mathlib.Core.Path.{_≡_};
+ghost use mathlib.Core.Bool.{Bool, true};
+ghost use mathlib.Core.List.{_++_, map};
+ghost use Prim.Native.Nat.{_+_, _*_, _≤_, _<_};
+ghost use lib.ListN.{length, drop};
+ghost use lib.Dec.{T};
+ghost use Rattle.model.specs.Lists.{from};
+ghost use Rattle.model.specs.Term.{deref, name, acyclic};
+ghost use Rattle.model.specs.Area.{termWords, entryRowWords, word};
+ghost use Rattle.theory.specs.Modest.{Modest};
+ghost use Rattle.layout.specs.Limits.{limitsOf};
+ghost use Rattle.layout.specs.Rows.{bookOf, boundOf, GoodTerms, Loaded};
+ghost use Rattle.values.specs.Reading.{Listed};
+ghost use Rattle.names.specs.Classes.{Scratch};
+ghost use Rattle.sound.specs.Sound.{loaded, headerOk, rowsOk};
+ghost use Rattle.rows.specs.RowTests.{termRowsOk, bindingsOk, linesOk, entryRowsOk};
+ghost use Rattle.state.specs.Loading.{Sizes, Words};
+use layout::Limits;
+
+// Whether the header's numbers lie in their ranges and the area has the length that its capacity needs.
+pub fn header_ok(area: &[u8], lim: Limits) -> bool
+    requires { ⌜ Modest (limitsOf lim) ⌝ }
+    ensures { λ r. ⌜ r ≡ headerOk (limitsOf lim) (now (area .entry)) ⌝ }
+{
+    if area.len() < layout::WORD_BYTES * layout::HEADER_WORDS {
+        return false;
+    }
+    let h = area::load_header(area);
+    let capacity = h.capacity as usize;
+    if capacity < 1 {
+        return false;
+    }
+    if lim.capacity < capacity {
+        return false;
+    }
+    if lim.terms < h.terms as usize {
+        return false;
+    }
+    if h.capacity < h.entries {
+        return false;
+    }
+    if lim.lines < h.lines as usize {
+        return false;
+    }
+    area::needed_length(lim, capacity) <= area.len()
+}
+
+// Loads the rows of an area whose header is in order.
+pub fn load(
+    area: &[u8],
+    lim: Limits,
+    rows: &mut [u32],
+    bindings: &mut [u32],
+    lines: &mut [u32],
+    entries: &mut [u32],
+)
+    requires { ⌜ Modest (limitsOf lim) × T (headerOk (limitsOf lim) (now area))
+        × Sizes (limitsOf lim) (word (now area) 0) (now rows) (now bindings) (now lines) (now entries) ⌝ }
+    ensures { λ _. ⌜ Words (loaded (limitsOf lim) (now (area .entry))) (now (rows .exit)) (now (bindings .exit)) (now (lines .exit)) (now (entries .exit)) ⌝ }
+{
+    words::load(area, layout::HEADER_WORDS, rows);
+    words::load(area, area::bindings_at(lim), bindings);
+    words::load(area, area::lines_at(lim), lines);
+    words::load(area, area::entries_at(lim), entries);
+}

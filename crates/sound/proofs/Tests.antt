@@ -58,7 +58,7 @@ term-row rows t =
       λ f. three .1 (le→leb _ _ (f .count), eq-numbers _ _ (f .row), f .in-range),
     )
 
-entry-row : (rows : List ℕ) (n i : ℕ) → T (entryRowOk rows n i) ↔ EntryRow rows n i
+pub entry-row : (rows : List ℕ) (n i : ℕ) → T (entryRowOk rows n i) ↔ EntryRow rows n i
 unfolding entryRowOk
 entry-row rows n i =
     let four : _ =

@@ -6,6 +6,7 @@ use lib.ListN.{length}
 use Rattle.model.specs.Limits.{Limits}
 use Rattle.model.specs.Area.{termWords, entryRowWords}
 use Rattle.layout.specs.Rows.{Loaded}
+use Rattle.area.specs.declared.Header.{Header}
 
 -- Each slice has the words of its part, for an area of this capacity.
 pub record Sizes (lim : Limits) (capacity : ℕ) (rows bindings lines entries : List ℕ) : Type 0 where
@@ -20,3 +21,17 @@ pub record Words (w : Loaded) (rows bindings lines entries : List ℕ) : Type 0 
   pub is-bindings : bindings ≡ w .bindingWords
   pub is-lines : lines ≡ w .lineWords
   pub is-entries : entries ≡ w .entryRows
+
+-- The loaded state of a header and the slices.
+abbrev pub held : Header → List ℕ → List ℕ → List ℕ → List ℕ → Loaded
+held h rows bindings lines entries =
+    record {
+      capacity = h .capacity;
+      terms = h .terms;
+      entries = h .entries;
+      lines = h .lines;
+      termRows = rows;
+      bindingWords = bindings;
+      lineWords = lines;
+      entryRows = entries;
+    }

@@ -16,7 +16,8 @@ ghost use Rattle.values.specs.Reading.{Listed};
 ghost use Rattle.names.specs.Classes.{Scratch};
 ghost use Rattle.sound.specs.Sound.{loaded, headerOk, rowsOk};
 ghost use Rattle.rows.specs.RowTests.{termRowsOk, bindingsOk, linesOk, entryRowsOk};
-ghost use Rattle.state.specs.Loading.{Sizes, Words};
+ghost use Rattle.state.specs.Loading.{Sizes, Words, held};
+ghost use Rattle.state.specs.Ready.{Valued, Room};
 use layout::Limits;
 
 // Whether the header's numbers lie in their ranges and the area has the length that its capacity needs.
@@ -64,4 +65,32 @@ pub fn load(
     words::load(area, area::bindings_at(lim), bindings);
     words::load(area, area::lines_at(lim), lines);
     words::load(area, area::entries_at(lim), entries);
+}
+
+// Whether no value contains itself; then lists the `n` terms, and finds what each stands for and its name. `work`, `lefts`,
+// `rights`, `heads` and `next` are scratch.
+pub fn name_terms(
+    rows: &[u32],
+    bindings: &[u32],
+    n: u32,
+    list: &mut [u32],
+    work: &mut [u32],
+    roots: &mut [u32],
+    names: &mut [u32],
+    lefts: &mut [u32],
+    rights: &mut [u32],
+    heads: &mut [u32],
+    next: &mut [u32],
+) -> bool
+    requires { ⌜ GoodTerms (now rows) (now bindings) n
+        × Room (now list) (now work) (now roots) (now names) (now lefts) (now rights) (now heads) (now next) n ⌝ }
+    ensures acyclic { λ r. ⌜ r ≡ acyclic (bookOf (now (rows .entry)) n) (boundOf (now (bindings .entry)) n) ⌝ }
+    ensures values { λ r. ⌜ (r ≡ true → Valued (now (rows .entry)) (now (bindings .entry)) (now (list .exit)) (now (roots .exit)) (now (names .exit)) n) ⌝ }
+{
+    if !order::order(rows, bindings, n, work, list) {
+        return false;
+    }
+    values::roots(rows, bindings, n, list, roots);
+    names::names(rows, bindings, n, list, lefts, rights, heads, next, work, names);
+    true
 }

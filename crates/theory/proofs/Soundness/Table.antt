@@ -53,17 +53,17 @@ facts-distinct (e ∷ es) h =
 
 module _ (b : Book) (β : Bindings) (es : Table) where
   -- an entry exists and holds two values exactly when the two tests say so
-  has-facts : (i l r : ℕ) → T (ltb i (length es)) → T (holds b β l r (entry es i)) → Has b β es i l r
+  pub has-facts : (i l r : ℕ) → T (ltb i (length es)) → T (holds b β l r (entry es i)) → Has b β es i l r
   has-facts i l r p h =
       record { present = ltb→lt i (length es) p; left = holds-eq b β l r (entry es i) h .0; right = holds-eq b β l r (entry es i) h .1 }
 
   -- the argument entries of two lists of terms are right
-  record ArgumentFacts (is ls rs : List ℕ) : Type 0 where
-    count-left : length is ≡ length ls
-    count-right : length is ≡ length rs
-    argument : (j : ℕ) → j < length is → Has b β es (getD is j 0) (getD ls j 0) (getD rs j 0)
+  pub record ArgumentFacts (is ls rs : List ℕ) : Type 0 where
+    pub count-left : length is ≡ length ls
+    pub count-right : length is ≡ length rs
+    pub argument : (j : ℕ) → j < length is → Has b β es (getD is j 0) (getD ls j 0) (getD rs j 0)
 
-  argument-facts : (is ls rs : List ℕ) → T (argumentsOk b β es is ls rs) → ArgumentFacts is ls rs
+  pub argument-facts : (is ls rs : List ℕ) → T (argumentsOk b β es is ls rs) → ArgumentFacts is ls rs
   unfolding argumentsOk isEmpty
   argument-facts [] [] [] h = record { count-left = refl; count-right = refl; argument = λ j l. absurd (not-suc-le-zero l) }
   argument-facts [] [] (r ∷ rs) h = absurd h
@@ -80,7 +80,7 @@ module _ (b : Book) (β : Bindings) (es : Table) where
       at g f zero k = g
       at g f (suc j) k = f .argument j (le-of-suc-le-suc k)
 
-  facts-argument : (is ls rs : List ℕ) → ArgumentFacts is ls rs → T (argumentsOk b β es is ls rs)
+  pub facts-argument : (is ls rs : List ℕ) → ArgumentFacts is ls rs → T (argumentsOk b β es is ls rs)
   unfolding argumentsOk isEmpty
   facts-argument [] [] [] f = tt
   facts-argument [] [] (r ∷ rs) f = absurd (omega (arith, f .count-right))

@@ -1,0 +1,168 @@
+-- The pairs of a table's sides, each number under a function, pushed in order: what each push answers. Assumes nothing.
+use mathlib.Core.Path.{_≡_, refl, sym, _∙_}
+use mathlib.Core.List.{List, map}
+use Prim.Native.Nat.{ℕ, suc, _+_, _<_}
+use native.Mathlib.Nat.{not-suc-le-zero}
+use native.Mathlib.Numerals.{add-one}
+use native.Mathlib.Omega.{arith}
+use borrow.Author.Count.{below-more}
+use lib.ListN.{length, getD, set, length-set}
+use lib.Dec.{T, eqb, eqb→eq}
+use Rattle.model.specs.Lists.{all, from}
+use Rattle.model.specs.Term.{Book, Bindings, name}
+use Rattle.model.specs.Table.{Entry, Table, holeAt, entry, entryOf}
+use Rattle.model.specs.Area.{distinct}
+use Rattle.theory.proofs.Lists.Laws.{T-true, true-T, same-test}
+use Rattle.theory.proofs.Soundness.Table.{eq-T, distinct-facts, facts-distinct}
+use Rattle.theory.proofs.Soundness.Terms.{all-below, below-all}
+use Rattle.theory.proofs.Table.Search.{getD-map-lt}
+use Rattle.pairs.specs.Pairs.{placeOf}
+use Rattle.pairs.specs.Index.{Indexed, noHeads, Pushed}
+use Rattle.pairs.proofs.Laws.{Holds, Kept, place-holds, place-le, place-least, place-none, place-at, place-kept, kept-set, holds-set}
+use Rattle.pairs.proofs.Growth.{indexed-none}
+use Rattle.entries.specs.Known.{Room}
+use Rattle.entries.proofs.Names.{SideNames, entryOf-place}
+
+-- one side of each entry under f
+pub leftsBy : (ℕ → ℕ) → Table → List ℕ
+leftsBy f es = map (λ (e : Entry). f (e .left)) es
+
+pub rightsBy : (ℕ → ℕ) → Table → List ℕ
+rightsBy f es = map (λ (e : Entry). f (e .right)) es
+
+-- the first place of the pair of entry i among the pairs before it, or i
+pub placeBy : (ℕ → ℕ) → Table → ℕ → ℕ
+placeBy f es i = placeOf (leftsBy f es) (rightsBy f es) i (f (entry es i .left)) (f (entry es i .right))
+
+-- The pairs of the first i entries are pushed.
+pub record Filled (f : ℕ → ℕ) (es : Table) (lefts rights heads next : List ℕ) (i : ℕ) : Type 0 where
+  pub indexed : Indexed lefts rights heads next i
+  pub kept : Kept (leftsBy f es) (rightsBy f es) lefts rights i
+
+-- And the slices have the lengths that they had.
+pub record Filling (f : ℕ → ℕ) (es : Table) (lefts₀ rights₀ next₀ lefts rights heads next : List ℕ) (i : ℕ) : Type 0 where
+  pub filled : Filled f es lefts rights heads next i
+  pub lefts-size : length lefts ≡ length lefts₀
+  pub rights-size : length rights ≡ length rights₀
+  pub next-size : length next ≡ length next₀
+
+-- slices of the same lengths have the same room
+pub room-kept : {lefts rights heads next lefts′ rights′ heads′ next′ : List ℕ} {m : ℕ} → Room lefts rights heads next m
+    → length lefts′ ≡ length lefts → length rights′ ≡ length rights → length heads′ ≡ length heads → length next′ ≡ length next
+    → Room lefts′ rights′ heads′ next′ m
+room-kept r l h k n =
+    record {
+      lefts-fit = rw l (r .lefts-fit);
+      rights-fit = rw h (r .rights-fit);
+      next-fit = rw n (r .next-fit);
+      words = rw l (r .words);
+      all-heads = rw k (r .all-heads);
+    }
+
+module _ (f : ℕ → ℕ) (es : Table) where
+  -- entry i has its pair at place i
+  side-pair : (i : ℕ) → i < length es → Holds (leftsBy f es) (rightsBy f es) i (f (entry es i .left)) (f (entry es i .right))
+  unfolding leftsBy rightsBy
+  side-pair i h =
+      record {
+        left = getD-map-lt (λ (e : Entry). f (e .left)) es i (holeAt 0 0 0) 0 h;
+        right = getD-map-lt (λ (e : Entry). f (e .right)) es i (holeAt 0 0 0) 0 h;
+      }
+
+  -- none are pushed
+  filled-none : (lefts rights heads next : List ℕ) → heads ≡ noHeads → length lefts < 4294967296 → Filled f es lefts rights heads next 0
+  filled-none lefts rights heads next e h =
+      record {
+        indexed = indexed-none lefts rights heads next e h;
+        kept = record { left = λ j l. absurd (not-suc-le-zero l); right = λ j l. absurd (not-suc-le-zero l) };
+      }
+
+  pub filling-none : (lefts rights heads next : List ℕ) → heads ≡ noHeads → length lefts < 4294967296
+      → Filling f es lefts rights next lefts rights heads next 0
+  filling-none lefts rights heads next e h =
+      record { filled = filled-none lefts rights heads next e h; lefts-size = refl; rights-size = refl; next-size = refl }
+
+  -- one more is pushed: the answer, and the pairs after it
+  module _ {lefts rights heads next lefts′ rights′ heads′ next′ : List ℕ} {i a b r : ℕ} (there : i < length es) (s : Filled f es lefts rights heads next i)
+      (p : Pushed lefts rights lefts′ rights′ heads′ next′ i a b r) (l : a ≡ f (entry es i .left)) (h : b ≡ f (entry es i .right)) where
+    pub filled-place : r ≡ placeBy f es i
+    unfolding placeBy
+    filled-place = p .place ∙ rw (l, h) (place-kept (s .kept) i _ _ (omega arith))
+
+    filled-more : i < length lefts → i < length rights → Filled f es lefts′ rights′ heads′ next′ (i + 1)
+    filled-more room-left room-right =
+        let own = side-pair i there in
+        let new = holds-set lefts rights i a b room-left room-right in
+        let old = kept-set lefts rights i a b in
+        rw (p .left, p .right) (record {
+          indexed = rw (add-one, ← p .left, ← p .right) (p .indexed);
+          kept = record {
+            left = below-more (λ j. getD (set lefts i a) j 0 ≡ getD (leftsBy f es) j 0) i (λ j k. old .left j k ∙ s .kept .left j k) (new .left ∙ l ∙ sym (own .left));
+            right = below-more (λ j. getD (set rights i b) j 0 ≡ getD (rightsBy f es) j 0) i (λ j k. old .right j k ∙ s .kept .right j k) (new .right ∙ h ∙ sym (own .right));
+          };
+        })
+
+  -- the slices have room for one more
+  module _ {lefts₀ rights₀ heads₀ next₀ lefts rights heads next : List ℕ} {i : ℕ} (room : Room lefts₀ rights₀ heads₀ next₀ (length es)) (there : i < length es)
+      (s : Filling f es lefts₀ rights₀ next₀ lefts rights heads next i) where
+    pub push-room : (i < length lefts) × (i < length rights) × (i < length next)
+    push-room = (
+      omega (arith, room .lefts-fit, s .lefts-size),
+      omega (arith, room .rights-fit, s .rights-size),
+      omega (arith, room .next-fit, s .next-size),
+    )
+
+    pub filling-more : {lefts′ rights′ heads′ next′ : List ℕ} {a b r : ℕ} → Pushed lefts rights lefts′ rights′ heads′ next′ i a b r → length next′ ≡ length next
+        → a ≡ f (entry es i .left) → b ≡ f (entry es i .right) → Filling f es lefts₀ rights₀ next₀ lefts′ rights′ heads′ next′ (i + 1)
+    filling-more p n l h =
+        record {
+          filled = filled-more there (s .filled) p l h (push-room .0) (push-room .1);
+          lefts-size = rw (p .left, length-set) (s .lefts-size);
+          rights-size = rw (p .right, length-set) (s .rights-size);
+          next-size = n ∙ s .next-size;
+        }
+
+  -- under names the answer is the lowest entry with the values of entry i
+  module _ (b : Book) (β : Bindings) (named : (t : ℕ) → t < length b → f t ≡ name b β t)
+      (left-term : (i : ℕ) → i < length es → entry es i .left < length b) (right-term : (i : ℕ) → i < length es → entry es i .right < length b) where
+    side-names : SideNames b β es (leftsBy f es) (rightsBy f es)
+    side-names =
+        record {
+          left-term = left-term;
+          right-term = right-term;
+          left-name = λ i h. side-pair i h .left ∙ named _ (left-term i h);
+          right-name = λ i h. side-pair i h .right ∙ named _ (right-term i h);
+        }
+
+    pub entryOf-placeBy : (i : ℕ) → i < length es → entryOf b β es (entry es i .left) (entry es i .right) ≡ placeBy f es i
+    unfolding placeBy
+    entryOf-placeBy i h =
+        entryOf-place b β es (leftsBy f es) (rightsBy f es) side-names _ _ (left-term i h) (right-term i h)
+        ∙ rw (← named (entry es i .left) (left-term i h), ← named (entry es i .right) (right-term i h))
+        (place-at (leftsBy f es) (rightsBy f es) (length es) i _ _ h (side-pair i h))
+
+-- no two entries hold one pair exactly where each pair's first place is its own
+module _ (es : Table) where
+  abbrev own : ℕ → ℕ
+  own = placeBy (λ t. t) es
+
+  distinct-own : (i : ℕ) → i < length es → T (distinct es) → own i ≡ i
+  unfolding placeBy
+  distinct-own i h d =
+      place-none (leftsBy (λ t. t) es) (rightsBy (λ t. t) es) i _ _ (λ j l g.
+      let there = side-pair (λ t. t) es j (omega arith) in
+      distinct-facts es d j i l h (sym (there .left) ∙ g .left) (sym (there .right) ∙ g .right))
+
+  own-distinct : ((i : ℕ) → i < length es → own i ≡ i) → T (distinct es)
+  unfolding placeBy
+  own-distinct h =
+      facts-distinct es (λ i j l k p q.
+      let there = side-pair (λ t. t) es i (omega arith) in
+      let low = place-least (leftsBy (λ t. t) es) (rightsBy (λ t. t) es) j _ _ i l (record { left = there .left ∙ p; right = there .right ∙ q }) in
+      omega (arith, low, h j k))
+
+  pub distinct-places : distinct es ≡ all (λ i. eqb (placeBy (λ t. t) es i) i) (from 0 (length es))
+  distinct-places =
+      same-test (distinct es) (all (λ i. eqb (own i) i) (from 0 (length es)))
+      (λ d. below-all (λ i. eqb (own i) i) (length es) (λ i h. eq-T _ _ (distinct-own i h d)))
+      (λ a. own-distinct (λ i h. eqb→eq _ _ (all-below (λ i. eqb (own i) i) (length es) a i h)))

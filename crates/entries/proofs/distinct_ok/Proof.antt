@@ -1,0 +1,123 @@
+-- `entries::distinct_ok` meets its contract: the loop's invariant says that the pairs of the entries before `i` are pushed and
+-- that each had its first place there, and the measure is the entries that are left. Assumes nothing.
+use mathlib.Core.Path.{_≡_, sym, _∙_}
+use Prim.Native.Nat.{_-_, _<_}
+use native.Mathlib.Omega.{arith}
+use borrow.Author.Count.{below-none, below-more}
+use borrow.Author.Needs.{needs}
+use borrow.Author.Tests.{eq-eqb, ne-eqb}
+use denote.Ref.{now}
+use lib.ListN.{length}
+use Rattle.layout.specs.Rows.{tableOf}
+use Rattle.layout.proofs.Rows.{length-tableOf}
+use Rattle.rows.proofs.Loops.{Passed}
+use Rattle.entries.specs.Known.{Room}
+use Rattle.entries.proofs.Places.{Filling, placeBy, filling-none, filled-place, push-room, filling-more}
+use Rattle.entries.proofs.Rows.{entry-left, entry-right}
+use Rattle.entries.proofs.Table.{ownPlace, all-distinct, not-distinct}
+use Rattle.entries.proofs.distinct_ok.Statement.{statement}
+use Rattle.entries.proofs.distinct_ok.Tie as tie
+
+abbrev Inv-loop : tie.InvT-loop
+Inv-loop entries m lefts₀ rights₀ heads₀ next₀ i₀ lefts rights heads next i =
+    Filling (λ t. t) (tableOf entries m) lefts₀ rights₀ next₀ lefts rights heads next i × Passed (ownPlace entries m) i
+
+abbrev μ-loop : tie.MeasureT-loop
+μ-loop entries m lefts₀ rights₀ heads₀ next₀ i₀ lefts rights heads next i = m - i
+
+-- the start of a turn, from its call
+abbrev turn : tie.After-push Inv-loop μ-loop → tie.In-loop Inv-loop μ-loop
+turn c = c .before .before .before .before .before .before .before
+
+-- there is room for as many pairs as there are entries
+room : (c : tie.At-loop Inv-loop μ-loop) →
+    let a = c .before .before .before .before .before .before .before .before .before .before .args in Room (now (a .lefts)) (now (a .rights)) (now (a .heads)) (now (a .next)) (length (tableOf (now (a .entries)) (a .m)))
+room c = rw length-tableOf (c .before .before .before .before .before .before .before .before .before .before .pre .1)
+
+loop-holds : tie.Need-loop-holds Inv-loop μ-loop
+loop-holds c =
+    (filling-none _ _ _ _ _ _ (c .before .before .clear .ensures) (c .before .before .before .before .before .before .before .before .before .pre .1 .words), below-none _)
+
+push-requires : tie.Need-push-requires Inv-loop μ-loop
+push-requires c κs =
+    let t = c .before .before .before .before .before .before in
+    let h = t .before .loop .inv .0 in (h .filled .indexed, push-room _ _ (room (t .before)) (rw length-tableOf (t .loop-test .taken)) h)
+
+-- what the call answers
+place : (c : tie.After-push Inv-loop μ-loop) →
+    let a = c .before .before .before .before .before .before .before .before .before .before .before .before .before .before .before .before .before .before .args in c .push .result ≡ placeBy (λ t. t) (tableOf (now (a .entries)) (a .m)) (turn c .before .loop .i)
+place c =
+    let t = turn c in
+    filled-place _ _ (rw length-tableOf (t .loop-test .taken)) (t .before .loop .inv .0 .filled) (c .push .ensures)
+    (sym (entry-left _ _ _ (t .loop-test .taken))) (sym (entry-right _ _ _ (t .loop-test .taken)))
+
+same-length : tie.Need-same-length Inv-loop μ-loop
+same-length c = let p = c .before .before .before .before .before .before .before .before .before in p .push .kept .0 ∙ turn p .before .loop .inv .0 .lefts-size
+
+same-length-2 : tie.Need-same-length-2 Inv-loop μ-loop
+same-length-2 c = let p = c .before .before .before .before .before .before .before .before .before in p .push .kept .1 .0 ∙ turn p .before .loop .inv .0 .rights-size
+
+same-length-3 : tie.Need-same-length-3 Inv-loop μ-loop
+same-length-3 c = let p = c .before .before .before .before .before .before .before .before .before in omega (arith, p .push .ensures .indexed .all-heads, room (turn p .before) .all-heads)
+
+same-length-4 : tie.Need-same-length-4 Inv-loop μ-loop
+same-length-4 c = let p = c .before .before .before .before .before .before .before .before .before in p .push .kept .1 .1 .1 .0 ∙ turn p .before .loop .inv .0 .next-size
+
+returns : tie.Need-returns Inv-loop μ-loop
+returns c =
+    let p = c .before .before .before .before .before .before .before .before .before in
+    not-distinct _ _ _ (turn p .loop-test .taken) (ne-eqb _ _ (λ e. c .if1 .taken (place p ∙ e)))
+
+loop-again : tie.Need-loop-again Inv-loop μ-loop
+loop-again c =
+    let p = c .before .before .before .before .before .before .before .before .before in
+    let t = turn p in
+    let h = t .before .loop .inv in (
+      filling-more _ _ (room (t .before)) (rw length-tableOf (t .loop-test .taken)) (h .0) (p .push .ensures) (p .push .kept .1 .1 .1 .0)
+          (sym (entry-left _ _ _ (t .loop-test .taken))) (sym (entry-right _ _ _ (t .loop-test .taken))),
+      below-more _ _ (h .1) (eq-eqb _ _ (sym (place p) ∙ c .if1 .left)),
+    )
+
+same-length-5 : tie.Need-same-length-5 Inv-loop μ-loop
+same-length-5 c = c .before .loop .inv .0 .lefts-size
+
+same-length-6 : tie.Need-same-length-6 Inv-loop μ-loop
+same-length-6 c = c .before .loop .inv .0 .rights-size
+
+same-length-7 : tie.Need-same-length-7 Inv-loop μ-loop
+same-length-7 c = omega (arith, c .before .loop .inv .0 .filled .indexed .all-heads, room (c .before) .all-heads)
+
+same-length-8 : tie.Need-same-length-8 Inv-loop μ-loop
+same-length-8 c = c .before .loop .inv .0 .next-size
+
+returns-2 : tie.Need-returns-2 Inv-loop μ-loop
+returns-2 c = all-distinct _ _ _ (c .loop-test .left) (c .before .loop .inv .1)
+
+pub distinct-ok-spec : {M : Type 1} → statement M
+distinct-ok-spec =
+    tie.close
+    (tie.spec
+    Inv-loop
+    μ-loop
+    (λ c κs. search needs)
+    loop-holds
+    (λ c. search needs)
+    (λ c. search needs)
+    (λ c. search needs)
+    (λ c. search needs)
+    (λ c. search needs)
+    (λ c. search needs)
+    push-requires
+    same-length
+    same-length-2
+    same-length-3
+    same-length-4
+    returns
+    (λ c. search needs)
+    (λ c. search needs)
+    loop-again
+    same-length-5
+    same-length-6
+    same-length-7
+    same-length-8
+    returns-2)

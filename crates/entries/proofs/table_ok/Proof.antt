@@ -1,0 +1,58 @@
+-- `entries::table_ok` meets its contract: each return follows the tests that lead there. Assumes nothing.
+use mathlib.Core.Path.{sym, _∙_}
+use borrow.Author.Needs.{needs}
+use borrow.Author.Tests.{not-true, not-false}
+use Rattle.entries.proofs.Places.{room-kept}
+use Rattle.entries.proofs.Table.{table-values}
+use Rattle.entries.proofs.table_ok.Statement.{statement}
+use Rattle.entries.proofs.table_ok.Tie as tie
+
+-- a kind is wrong
+returns : tie.Need-returns
+returns c b β k = rw (table-values b β _, sym (c .before .kinds-ok .ensures b β k) ∙ not-true _ (c .if1 .taken))
+
+-- a same-as is wrong
+returns-2 : tie.Need-returns-2
+returns-2 c b β k =
+    let first = c .before .before .before .before .before .before .before .before .before .before .before .before .before .before in
+    rw (
+      table-values b β _,
+      sym (first .before .kinds-ok .ensures b β k) ∙ not-false _ (first .if1 .left),
+      sym (c .before .before .before .before .before .before .before .before .before .same-as-ok .ensures b β (k .held .named)) ∙ not-true _ (c .if2 .taken),
+    )
+
+distinct-ok-requires : tie.Need-distinct-ok-requires
+distinct-ok-requires c κs =
+    let s = c .before .before .before .before .before .before .before .before .before .before .before .before .before .before .before .before .before .before .before .before .before .before .before .before .before .before .before .before .pre in
+    let kept = c .before .before .before .before .before .before .before .before .before .before .before .before .before .same-as-ok .kept in (s .0 .known .held .named .entries-fit, room-kept (s .1) (kept .1 .1 .1 .0) (kept .1 .1 .1 .1 .0) (kept .1 .1 .1 .1 .1 .0) (kept .1 .1 .1 .1 .1 .1 .0))
+
+-- no kind and no same-as is wrong
+returns-3 : tie.Need-returns-3
+returns-3 c b β k =
+    let second = c .before .before .before .before .before .before .before .before .before .before .before .before .before in
+    let first = second .before .before .before .before .before .before .before .before .before .before .before .before .before .before in
+    rw (
+      table-values b β _,
+      sym (first .before .kinds-ok .ensures b β k) ∙ not-false _ (first .if1 .left),
+      sym (second .before .before .before .before .before .before .before .before .before .same-as-ok .ensures b β (k .held .named)) ∙ not-false _ (second .if2 .left),
+    )
+    (c .before .before .before .before .before .before .before .before .distinct-ok .ensures)
+
+pub table-ok-spec : {M : Type 1} → statement M
+table-ok-spec =
+    tie.close
+    (tie.spec
+    (λ c κs. search needs)
+    returns
+    (λ c κs. search needs)
+    (λ c. search needs)
+    (λ c. search needs)
+    (λ c. search needs)
+    (λ c. search needs)
+    returns-2
+    distinct-ok-requires
+    (λ c. search needs)
+    (λ c. search needs)
+    (λ c. search needs)
+    (λ c. search needs)
+    returns-3)

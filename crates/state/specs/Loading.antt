@@ -1,7 +1,7 @@
 -- The slices into which an area's words are loaded. Assumes nothing: these are definitions.
 use mathlib.Core.Path.{_≡_}
 use mathlib.Core.List.{List}
-use Prim.Native.Nat.{ℕ, _*_}
+use Prim.Native.Nat.{ℕ, _*_, _≤_}
 use lib.ListN.{length}
 use Rattle.model.specs.Limits.{Limits}
 use Rattle.model.specs.Area.{termWords, entryRowWords}
@@ -35,3 +35,10 @@ held h rows bindings lines entries =
       lineWords = lines;
       entryRows = entries;
     }
+
+-- The rows and words that the numbers of a loaded state count lie in its lists.
+pub record Used (w : Loaded) : Type 0 where
+  pub terms-fit : termWords * w .terms ≤ length (w .termRows)
+  pub bindings-fit : w .terms ≤ length (w .bindingWords)
+  pub lines-fit : w .lines ≤ length (w .lineWords)
+  pub entries-fit : entryRowWords * w .entries ≤ length (w .entryRows)

@@ -16,8 +16,9 @@ ghost use Rattle.values.specs.Reading.{Listed};
 ghost use Rattle.names.specs.Classes.{Scratch};
 ghost use Rattle.sound.specs.Sound.{loaded, headerOk, rowsOk};
 ghost use Rattle.rows.specs.RowTests.{termRowsOk, bindingsOk, linesOk, entryRowsOk};
-ghost use Rattle.state.specs.Loading.{Sizes, Words, held};
+ghost use Rattle.state.specs.Loading.{Sizes, Words, held, Used};
 ghost use Rattle.state.specs.Ready.{Valued, Room};
+use area::Header;
 use layout::Limits;
 
 // Whether the header's numbers lie in their ranges and the area has the length that its capacity needs.
@@ -65,6 +66,31 @@ pub fn load(
     words::load(area, area::bindings_at(lim), bindings);
     words::load(area, area::lines_at(lim), lines);
     words::load(area, area::entries_at(lim), entries);
+}
+
+// Whether the loaded rows pass the tests that look at words alone.
+pub fn rows_ok(
+    h: Header,
+    rows: &[u32],
+    bindings: &[u32],
+    lines: &[u32],
+    entries: &[u32],
+) -> bool
+    requires { ⌜ Used (held h (now rows) (now bindings) (now lines) (now entries)) ⌝ }
+    ensures { λ r. ⌜ r ≡ rowsOk (held h (now (rows .entry)) (now (bindings .entry)) (now (lines .entry)) (now (entries .entry))) ⌝ }
+{
+    let n = h.terms as usize;
+    if !rows::term_rows_ok(rows, n) {
+        return false;
+    }
+    if !rows::bindings_ok(rows, bindings, n) {
+        return false;
+    }
+    let m = h.entries as usize;
+    if !rows::lines_ok(lines, h.lines as usize, m) {
+        return false;
+    }
+    rows::entry_rows_ok(entries, m, n)
 }
 
 // Whether no value contains itself; then lists the `n` terms, and finds what each stands for and its name. `work`, `lefts`,

@@ -1,8 +1,8 @@
 -- What the tests of a loaded state give to each other: rows in order hold terms that obey the rules, and with the terms' values
 -- known the table can be tested. Assumes nothing.
-use mathlib.Core.Path.{_≡_, sym, ap, _∙_}
+use mathlib.Core.Path.{_≡_, refl, sym, ap, _∙_}
 use mathlib.Core.List.{List, map}
-use mathlib.Core.Bool.{Bool, true}
+use mathlib.Core.Bool.{Bool, true, false, _&&_}
 use Prim.Native.Nat.{ℕ, _*_, _≤_, _<_}
 use native.Mathlib.Nat.{zero-add}
 use native.Mathlib.Omega.{arith}
@@ -10,22 +10,22 @@ use lib.ListN.{length, getD, take}
 use lib.Seq.{getD-take}
 use lib.Dec.{T, eqb}
 use borrow.Author.Tests.{eq-eqb}
-use Rattle.model.specs.Lists.{from}
+use Rattle.model.specs.Lists.{all, from}
 use Rattle.model.specs.Term.{Book, Bindings, deref, name, acyclic}
-use Rattle.model.specs.Area.{termsOk}
+use Rattle.model.specs.Area.{termsOk, distinct}
 use Rattle.theory.specs.Values.{proper}
 use Rattle.theory.proofs.Lists.Laws.{true-T}
 use Rattle.theory.proofs.Lists.Conjunctions.{and₃, and₄}
 use Rattle.theory.proofs.Lists.From.{getD-map-from}
-use Rattle.layout.specs.Rows.{Loaded, at, bookOf, boundOf, GoodTerms}
+use Rattle.layout.specs.Rows.{Loaded, at, bookOf, boundOf, tableOf, loadedState, GoodTerms}
 use Rattle.layout.proofs.Rows.{length-bookOf, length-boundOf}
 use Rattle.rows.specs.RowTests.{termRowsOk, bindingsOk, linesOk, entryRowsOk}
 use Rattle.values.specs.Reading.{Listed}
-use Rattle.sound.specs.Sound.{rowsOk}
+use Rattle.sound.specs.Sound.{rowsOk, valuesOk, tableOk, soundLoaded}
 use Rattle.sound.proofs.Facts.{RowFacts}
 use Rattle.sound.proofs.Tests.{row-facts}
 use Rattle.sound.proofs.Chain.{rows-rules}
-use Rattle.entries.specs.Known.{Known}
+use Rattle.entries.specs.Known.{Known, Given}
 use Rattle.state.specs.Loading.{Used}
 use Rattle.state.specs.Ready.{Valued, Room}
 
@@ -87,3 +87,20 @@ table-known w used rows-ok {list} {roots} {names} roots-fit names-fit v =
       roots-fit = rw size roots-fit;
       is-root = λ t l. rw size (word-known (deref b β n) n roots (v .is-roots) t (rw size at l));
     }
+
+-- The whole test, by the tests that were made.
+module _ (w : Loaded) where
+  pub rows-refused : rowsOk w ≡ false → false ≡ soundLoaded w
+  unfolding soundLoaded
+  rows-refused e = rw e
+
+  module _ (rows-ok : rowsOk w ≡ true) where
+    pub cycle-refused : acyclic (bookOf (w .termRows) (w .terms)) (boundOf (w .bindingWords) (w .terms)) ≡ false → false ≡ soundLoaded w
+    unfolding soundLoaded loadedState
+    cycle-refused e = rw (rows-ok, e)
+
+    pub table-decides : acyclic (bookOf (w .termRows) (w .terms)) (boundOf (w .bindingWords) (w .terms)) ≡ true → {r : Bool}
+        → let es = tableOf (w .entryRows) (w .entries) in
+        r ≡ (all (valuesOk (bookOf (w .termRows) (w .terms)) (boundOf (w .bindingWords) (w .terms)) es) es && distinct es) → r ≡ soundLoaded w
+    unfolding soundLoaded loadedState tableOk
+    table-decides e h = rw (rows-ok, e) h

@@ -14,10 +14,11 @@ ghost use Rattle.layout.specs.Limits.{limitsOf};
 ghost use Rattle.layout.specs.Rows.{bookOf, boundOf, GoodTerms, Loaded};
 ghost use Rattle.values.specs.Reading.{Listed};
 ghost use Rattle.names.specs.Classes.{Scratch};
-ghost use Rattle.sound.specs.Sound.{loaded, headerOk, rowsOk};
+ghost use Rattle.sound.specs.Sound.{loaded, headerOk, rowsOk, soundLoaded};
 ghost use Rattle.rows.specs.RowTests.{termRowsOk, bindingsOk, linesOk, entryRowsOk};
 ghost use Rattle.state.specs.Loading.{Sizes, Words, held, Used};
 ghost use Rattle.state.specs.Ready.{Valued, Room};
+ghost use Rattle.entries.specs.Known as Known;
 use area::Header;
 use layout::Limits;
 
@@ -119,4 +120,38 @@ pub fn name_terms(
     values::roots(rows, bindings, n, list, roots);
     names::names(rows, bindings, n, list, lefts, rights, heads, next, work, names);
     true
+}
+
+// Whether a loaded state passes all tests; then the terms are listed, with what each stands for and its name. `work`, `lefts`,
+// `rights`, `heads` and `next` are scratch.
+pub fn state_ok(
+    h: Header,
+    rows: &[u32],
+    bindings: &[u32],
+    lines: &[u32],
+    entries: &[u32],
+    list: &mut [u32],
+    work: &mut [u32],
+    roots: &mut [u32],
+    names: &mut [u32],
+    lefts: &mut [u32],
+    rights: &mut [u32],
+    heads: &mut [u32],
+    next: &mut [u32],
+) -> bool
+    requires used { ⌜ Used (held h (now rows) (now bindings) (now lines) (now entries)) ⌝ }
+    requires terms { ⌜ Room (now list) (now work) (now roots) (now names) (now lefts) (now rights) (now heads) (now next) (h .terms) ⌝ }
+    requires entries { ⌜ Known.Room (now lefts) (now rights) (now heads) (now next) (h .entries) ⌝ }
+    ensures sound { λ r. ⌜ r ≡ soundLoaded (held h (now (rows .entry)) (now (bindings .entry)) (now (lines .entry)) (now (entries .entry))) ⌝ }
+    ensures values { λ r. ⌜ (r ≡ true → Valued (now (rows .entry)) (now (bindings .entry)) (now (list .exit)) (now (roots .exit)) (now (names .exit)) (h .terms)) ⌝ }
+{
+    if !rows_ok(h, rows, bindings, lines, entries) {
+        return false;
+    }
+    let n = h.terms;
+    if !name_terms(rows, bindings, n, list, work, roots, names, lefts, rights, heads, next) {
+        return false;
+    }
+    let m = h.entries as usize;
+    entries::table_ok(rows, roots, names, entries, m, lefts, rights, heads, next)
 }

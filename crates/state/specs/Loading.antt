@@ -4,7 +4,7 @@ use mathlib.Core.List.{List}
 use Prim.Native.Nat.{ℕ, _*_, _≤_}
 use lib.ListN.{length}
 use Rattle.model.specs.Limits.{Limits}
-use Rattle.model.specs.Area.{termWords, entryRowWords}
+use Rattle.model.specs.Area.{termWords, entryRowWords, word}
 use Rattle.layout.specs.Rows.{Loaded}
 use Rattle.area.specs.declared.Header.{Header}
 
@@ -42,3 +42,8 @@ pub record Used (w : Loaded) : Type 0 where
   pub bindings-fit : w .terms ≤ length (w .bindingWords)
   pub lines-fit : w .lines ≤ length (w .lineWords)
   pub entries-fit : entryRowWords * w .entries ≤ length (w .entryRows)
+
+-- The header's numbers are the first words of the area.
+abbrev pub HeaderOf : List ℕ → Header → Type 0
+HeaderOf area h =
+    (h .capacity ≡ word area 0) × (h .terms ≡ word area 1) × (h .entries ≡ word area 2) × (h .lines ≡ word area 3)

@@ -13,6 +13,7 @@ use Rattle.layout.specs.Rows.{bookOf, boundOf, Loaded, loadedState}
 use Rattle.values.specs.Reading.{Listed}
 use Rattle.names.specs.Classes.{Scratch}
 use Rattle.sound.specs.Sound.{rowsOk}
+use Rattle.entries.specs.Known as Known
 use Rattle.state.specs.Loading.{Sizes}
 
 -- The list has the n terms, each behind what its value is made of; then what each term stands for, and its name.
@@ -27,6 +28,11 @@ pub record Room (list work roots names lefts rights heads next : List ℕ) (n : 
   pub roots-fit : n ≤ length roots
   pub names-fit : n ≤ length names
   pub scratch : Scratch lefts rights heads next work n
+
+-- They have room for every state within the limits.
+pub record Lent (lim : Limits) (list work roots names lefts rights heads next : List ℕ) : Type 0 where
+  pub for-terms : Room list work roots names lefts rights heads next (lim .maxTerms)
+  pub for-entries : Known.Room lefts rights heads next (lim .maxCapacity)
 
 -- The loaded words are those of a sound state, and the values of its terms are known.
 pub record Ready (lim : Limits) (w : Loaded) (list roots names : List ℕ) : Type 0 where

@@ -8,6 +8,7 @@ ghost use lib.ListN.{length, drop};
 ghost use lib.Dec.{T};
 ghost use Rattle.model.specs.Lists.{from};
 ghost use Rattle.model.specs.Term.{deref, name, acyclic};
+ghost use Rattle.model.specs.Area as Area;
 ghost use Rattle.model.specs.Area.{termWords, entryRowWords, word};
 ghost use Rattle.theory.specs.Modest.{Modest};
 ghost use Rattle.layout.specs.Limits.{limitsOf};
@@ -16,8 +17,8 @@ ghost use Rattle.values.specs.Reading.{Listed};
 ghost use Rattle.names.specs.Classes.{Scratch};
 ghost use Rattle.sound.specs.Sound.{loaded, headerOk, rowsOk, soundLoaded};
 ghost use Rattle.rows.specs.RowTests.{termRowsOk, bindingsOk, linesOk, entryRowsOk};
-ghost use Rattle.state.specs.Loading.{Sizes, Words, held, Used};
-ghost use Rattle.state.specs.Ready.{Valued, Room};
+ghost use Rattle.state.specs.Loading.{Sizes, Words, held, Used, HeaderOf};
+ghost use Rattle.state.specs.Ready.{Valued, Room, Lent, Read};
 ghost use Rattle.entries.specs.Known as Known;
 use area::Header;
 use layout::Limits;
@@ -154,4 +155,48 @@ pub fn state_ok(
     }
     let m = h.entries as usize;
     entries::table_ok(rows, roots, names, entries, m, lefts, rights, heads, next)
+}
+
+// Loads an area whose header is in order, and says whether the area is sound; then the slices hold the words of its state, the
+// list of its terms, what each stands for and its name. `work`, `lefts`, `rights`, `heads` and `next` are scratch.
+pub fn sound(
+    area: &[u8],
+    lim: Limits,
+    h: Header,
+    rows: &mut [u32],
+    bindings: &mut [u32],
+    lines: &mut [u32],
+    entries: &mut [u32],
+    list: &mut [u32],
+    work: &mut [u32],
+    roots: &mut [u32],
+    names: &mut [u32],
+    lefts: &mut [u32],
+    rights: &mut [u32],
+    heads: &mut [u32],
+    next: &mut [u32],
+) -> bool
+    requires header { ⌜ Modest (limitsOf lim) × T (headerOk (limitsOf lim) (now area)) × HeaderOf (now area) h ⌝ }
+    requires sizes { ⌜ Sizes (limitsOf lim) (word (now area) 0) (now rows) (now bindings) (now lines) (now entries) ⌝ }
+    requires lent { ⌜ Lent (limitsOf lim) (now list) (now work) (now roots) (now names) (now lefts) (now rights) (now heads) (now next) ⌝ }
+    ensures sound { λ r. ⌜ r ≡ Area.sound (limitsOf lim) (now (area .entry)) ⌝ }
+    ensures read { λ r. ⌜ (r ≡ true → Read (limitsOf lim) (now (area .entry)) (held h (now (rows .exit)) (now (bindings .exit)) (now (lines .exit)) (now (entries .exit)))
+        (now (list .exit)) (now (roots .exit)) (now (names .exit))) ⌝ }
+{
+    load(area, lim, rows, bindings, lines, entries);
+    state_ok(
+        h,
+        rows,
+        bindings,
+        lines,
+        entries,
+        list,
+        work,
+        roots,
+        names,
+        lefts,
+        rights,
+        heads,
+        next,
+    )
 }

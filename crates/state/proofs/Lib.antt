@@ -3,3 +3,4 @@ pub mod Parts
 pub mod Values
 pub mod Tested
 pub mod Whole
+pub mod Cut

@@ -4,7 +4,7 @@ ghost use mathlib.Core.Path.{_≡_};
 ghost use mathlib.Core.Bool.{Bool, true};
 ghost use mathlib.Core.List.{_++_, map};
 ghost use Prim.Native.Nat.{_+_, _*_, _≤_, _<_};
-ghost use lib.ListN.{length, drop};
+ghost use lib.ListN.{length, take};
 ghost use lib.Dec.{T};
 ghost use Rattle.model.specs.Lists.{from};
 ghost use Rattle.model.specs.Term.{deref, name, acyclic};
@@ -17,7 +17,7 @@ ghost use Rattle.values.specs.Reading.{Listed};
 ghost use Rattle.names.specs.Classes.{Scratch};
 ghost use Rattle.sound.specs.Sound.{loaded, headerOk, rowsOk, soundLoaded};
 ghost use Rattle.rows.specs.RowTests.{termRowsOk, bindingsOk, linesOk, entryRowsOk};
-ghost use Rattle.state.specs.Loading.{Sizes, Words, held, Used, HeaderOf};
+ghost use Rattle.state.specs.Loading.{Sizes, Words, held, Used, headerOf, HeaderOf};
 ghost use Rattle.state.specs.Ready.{Valued, Room, Lent, Read};
 ghost use Rattle.entries.specs.Known as Known;
 use area::Header;
@@ -190,6 +190,56 @@ pub fn sound(
         bindings,
         lines,
         entries,
+        list,
+        work,
+        roots,
+        names,
+        lefts,
+        rights,
+        heads,
+        next,
+    )
+}
+
+// Whether an area of any length and any bytes is sound; then its state is loaded, as by `sound`, with the rows of its capacity at
+// the front of `entries`. Only the slices are written.
+pub fn read(
+    area: &[u8],
+    lim: Limits,
+    rows: &mut [u32],
+    bindings: &mut [u32],
+    lines: &mut [u32],
+    entries: &mut [u32],
+    list: &mut [u32],
+    work: &mut [u32],
+    roots: &mut [u32],
+    names: &mut [u32],
+    lefts: &mut [u32],
+    rights: &mut [u32],
+    heads: &mut [u32],
+    next: &mut [u32],
+) -> bool
+    requires modest { ⌜ Modest (limitsOf lim) ⌝ }
+    requires sizes { ⌜ Sizes (limitsOf lim) (lim .capacity) (now rows) (now bindings) (now lines) (now entries) ⌝ }
+    requires lent { ⌜ Lent (limitsOf lim) (now list) (now work) (now roots) (now names) (now lefts) (now rights) (now heads) (now next) ⌝ }
+    ensures sound { λ r. ⌜ r ≡ Area.sound (limitsOf lim) (now (area .entry)) ⌝ }
+    ensures read { λ r. ⌜ (r ≡ true → Read (limitsOf lim) (now (area .entry))
+        (held (headerOf (now (area .entry))) (now (rows .exit)) (now (bindings .exit)) (now (lines .exit)) (take (entryRowWords * word (now (area .entry)) 0) (now (entries .exit))))
+        (now (list .exit)) (now (roots .exit)) (now (names .exit))) ⌝ }
+{
+    if !header_ok(area, lim) {
+        return false;
+    }
+    let h = area::load_header(area);
+    let end = layout::ENTRY_WORDS * (h.capacity as usize);
+    sound(
+        area,
+        lim,
+        h,
+        rows,
+        bindings,
+        lines,
+        &mut entries[..end],
         list,
         work,
         roots,

@@ -4,3 +4,4 @@ pub mod Values
 pub mod Tested
 pub mod Whole
 pub mod Cut
+pub mod Uses

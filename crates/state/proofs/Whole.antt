@@ -128,6 +128,7 @@ module _ (lim : Limits) (area : List ℕ) (ok : T (headerOk lim area)) (h : Head
                 lines-size = z .lines-long;
                 entries-size = z .entries-long;
               };
+              used = used;
               rows = rows-ok;
               sound = rw same (facts-sound lim (stateOf area lim) (sound-carries lim area (true-T _ (sym decides ∙ t)) .0));
               valued = v;

@@ -14,7 +14,7 @@ use Rattle.values.specs.Reading.{Listed}
 use Rattle.names.specs.Classes.{Scratch}
 use Rattle.sound.specs.Sound.{rowsOk}
 use Rattle.entries.specs.Known as Known
-use Rattle.state.specs.Loading.{Sizes}
+use Rattle.state.specs.Loading.{Sizes, Used}
 
 -- The list has the n terms, each behind what its value is made of; then what each term stands for, and its name.
 pub record Valued (rows words list roots names : List ℕ) (n : ℕ) : Type 0 where
@@ -37,6 +37,7 @@ pub record Lent (lim : Limits) (list work roots names lefts rights heads next : 
 -- The loaded words are those of a sound state, and the values of its terms are known.
 pub record Ready (lim : Limits) (w : Loaded) (list roots names : List ℕ) : Type 0 where
   pub sizes : Sizes lim (w .capacity) (w .termRows) (w .bindingWords) (w .lineWords) (w .entryRows)
+  pub used : Used w
   pub rows : T (rowsOk w)
   pub sound : T (soundState lim (loadedState w))
   pub valued : Valued (w .termRows) (w .bindingWords) list roots names (w .terms)

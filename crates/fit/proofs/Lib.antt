@@ -1,3 +1,4 @@
 pub mod Opened
 pub mod OpenCases
 pub mod Copied
+pub mod EntryCases

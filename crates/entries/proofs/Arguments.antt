@@ -12,7 +12,7 @@ use Rattle.model.specs.Area.{argumentsOk}
 use Rattle.theory.proofs.Lists.Laws.{T-true, true-T, not-T-false}
 use Rattle.theory.proofs.Lists.Conjunctions.{and₂}
 use Rattle.theory.proofs.Soundness.Facts.{Has}
-use Rattle.theory.proofs.Soundness.Table.{has-facts, ArgumentFacts, argument-facts, facts-argument}
+use Rattle.theory.proofs.Soundness.Table.{has-facts, argument-facts, facts-argument}
 use Rattle.theory.proofs.Values.Equations.{eq-holds}
 use Rattle.rows.proofs.Loops.{Passed}
 use Rattle.entries.specs.Tests.{argumentRight}
@@ -48,7 +48,8 @@ module _ (b : Book) (β : Bindings) (es : Table) where
     pub argument-failed : (j : ℕ) → j < length is → argumentAt j ≡ false → argumentsOk b β es is ls rs ≡ false
     argument-failed j l e = not-T-false _ (λ h. rw e at (has-argument _ _ _ (argument-facts b β es is ls rs h .argument j l)))
 
-    pub arguments-passed : (j : ℕ) → length is ≤ j → length is ≡ length ls → length is ≡ length rs → Passed argumentAt j → argumentsOk b β es is ls rs ≡ true
+    pub arguments-passed : (j : ℕ) → length is ≤ j → length is ≡ length ls → length is ≡ length rs → Passed argumentAt j
+        → argumentsOk b β es is ls rs ≡ true
     arguments-passed j l p q h =
         T-true _
         (facts-argument b β es is ls rs

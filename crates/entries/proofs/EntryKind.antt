@@ -1,5 +1,5 @@
 -- The kind of an entry, by the words of its row and of the rows of two terms. Assumes nothing.
-use mathlib.Core.Path.{_≡_, refl, ap, sym, _∙_}
+use mathlib.Core.Path.{_≡_, refl, ap, _∙_}
 use mathlib.Core.List.{List}
 use mathlib.Core.Bool.{Bool, true, false, cond, _&&_}
 use Prim.Native.Nat.{ℕ, _+_, _*_, _-_, _<_}
@@ -7,7 +7,7 @@ use native.Mathlib.Nat.{add-sub-cancel-left}
 use native.Mathlib.Omega.{arith}
 use borrow.Author.Tests.{ne-eqb, eqb-true, eqb-false}
 use lib.ListN.{length, take, drop}
-use lib.Dec.{T, eqb, eqb→eq}
+use lib.Dec.{eqb, eqb→eq}
 use Rattle.model.specs.Term.{Node, var, app, symbol, arguments, alike, Book, Bindings}
 use Rattle.model.specs.Table.{hole, common, Table}
 use Rattle.model.specs.Area.{termWords, argumentsOk, kindOk}
@@ -19,12 +19,14 @@ use Rattle.entries.specs.Known.{Named, Held, Terms}
 use Rattle.entries.proofs.Rows.{argument-terms}
 
 -- an application and a term, by their first words
-symbols-at : (x y : ℕ) (xs ys : List ℕ) → (x ≡ 0 → ⊥) → (t : Bool) → eqb y 0 ≡ t → eqb x y ≡ alike (app (x - 1) xs) (cond t var (app (y - 1) ys))
+symbols-at : (x y : ℕ) (xs ys : List ℕ) → (x ≡ 0 → ⊥) → (t : Bool) → eqb y 0 ≡ t
+    → eqb x y ≡ alike (app (x - 1) xs) (cond t var (app (y - 1) ys))
 unfolding alike
 symbols-at x y xs ys d true e = ne-eqb x y (λ p. omega (arith, eqb-true y 0 e))
 symbols-at x y xs ys d false e =
     let n : y ≡ 0 → ⊥ = eqb-false y 0 e in
-    same-test (eqb x y) (eqb (x - 1) (y - 1)) (λ h. eq-T _ _ (ap (λ (k : ℕ). k - 1) (eqb→eq x y h))) (λ h. eq-T x y (omega (arith, eqb→eq (x - 1) (y - 1) h)))
+    same-test (eqb x y) (eqb (x - 1) (y - 1)) (λ h. eq-T _ _ (ap (λ (k : ℕ). k - 1) (eqb→eq x y h)))
+    (λ h. eq-T x y (omega (arith, eqb→eq (x - 1) (y - 1) h)))
 
 module _ (rows : List ℕ) (l r : ℕ) where
   -- a variable is like nothing, and an application is like one of the same symbol
@@ -67,7 +69,8 @@ module _ (b : Book) (β : Bindings) (es : Table) (entries rows : List ℕ) (k l 
     -- and a common entry is right by its symbol and its arguments
     pub common-kind : (at entries k ≡ 0 → ⊥) → kindOk b β es (kindOf entries k) (nodeOf rows l) (nodeOf rows r)
         ≡ eqb (at entries (k + 1)) (at rows (termWords * l) - 1)
-        && argumentsOk b β es (take (at entries (k + 2)) (drop (k + 3) entries)) (take (at rows (termWords * l + 1)) (drop (termWords * l + 2) rows)) (take (at rows (termWords * r + 1)) (drop (termWords * r + 2) rows))
+        && argumentsOk b β es (take (at entries (k + 2)) (drop (k + 3) entries)) (take (at rows (termWords * l + 1)) (drop (termWords * l + 2) rows))
+        (take (at rows (termWords * r + 1)) (drop (termWords * r + 2) rows))
     unfolding kindOf kindOk symbol arguments
     common-kind d =
         rw (ne-eqb (at entries k) 0 d, e, node-app rows l (left-applied rows l r e), node-app rows r (right-applied rows l r e))

@@ -4,3 +4,4 @@ pub mod Rows
 pub mod Arguments
 pub mod EntryKind
 pub mod Table
+pub mod Loaded

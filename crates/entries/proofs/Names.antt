@@ -1,6 +1,6 @@
 -- Values by their names: an entry holds the values of two terms where its sides have their names, and the lowest such entry is the
 -- first place of the pair of names. Assumes nothing.
-use mathlib.Core.Path.{_≡_, refl, ap, sym, _∙_}
+use mathlib.Core.Path.{_≡_, sym}
 use mathlib.Core.List.{List}
 use mathlib.Core.Bool.{_&&_}
 use Prim.Native.Nat.{ℕ, _<_}
@@ -9,7 +9,7 @@ use lib.Dec.{eqb, eqb→eq}
 use Rattle.model.specs.Term.{Book, Bindings, eqTree, val, name}
 use Rattle.model.specs.Table.{Entry, Table, holeAt, entry, holds, entryOf}
 use Rattle.pairs.specs.Pairs.{pairAt, pairsOf, isPair, placeOf}
-use Rattle.theory.proofs.Lists.Laws.{true-T, same-test, first-alike}
+use Rattle.theory.proofs.Lists.Laws.{same-test, first-alike}
 use Rattle.theory.proofs.Soundness.Table.{eq-T}
 use Rattle.theory.proofs.Values.Equations.{eqTree-eq, eqTree-refl, same-value-name, same-name-value}
 use Rattle.pairs.proofs.Laws.{length-pairs, pairs-at}

@@ -1,7 +1,7 @@
 -- The pairs of a table's sides, each number under a function, pushed in order: what each push answers. Assumes nothing.
 use mathlib.Core.Path.{_≡_, refl, sym, _∙_}
 use mathlib.Core.List.{List, map}
-use Prim.Native.Nat.{ℕ, suc, _+_, _<_}
+use Prim.Native.Nat.{ℕ, _+_, _<_}
 use native.Mathlib.Nat.{not-suc-le-zero}
 use native.Mathlib.Numerals.{add-one}
 use native.Mathlib.Omega.{arith}
@@ -12,13 +12,13 @@ use Rattle.model.specs.Lists.{all, from}
 use Rattle.model.specs.Term.{Book, Bindings, name}
 use Rattle.model.specs.Table.{Entry, Table, holeAt, entry, entryOf}
 use Rattle.model.specs.Area.{distinct}
-use Rattle.theory.proofs.Lists.Laws.{T-true, true-T, same-test}
+use Rattle.theory.proofs.Lists.Laws.{same-test}
 use Rattle.theory.proofs.Soundness.Table.{eq-T, distinct-facts, facts-distinct}
 use Rattle.theory.proofs.Soundness.Terms.{all-below, below-all}
 use Rattle.theory.proofs.Table.Search.{getD-map-lt}
 use Rattle.pairs.specs.Pairs.{placeOf}
 use Rattle.pairs.specs.Index.{Indexed, noHeads, Pushed}
-use Rattle.pairs.proofs.Laws.{Holds, Kept, place-holds, place-le, place-least, place-none, place-at, place-kept, kept-set, holds-set}
+use Rattle.pairs.proofs.Laws.{Holds, Kept, place-least, place-none, place-at, place-kept, kept-set, holds-set}
 use Rattle.pairs.proofs.Growth.{indexed-none}
 use Rattle.entries.specs.Known.{Room}
 use Rattle.entries.proofs.Names.{SideNames, entryOf-place}
@@ -83,8 +83,9 @@ module _ (f : ℕ → ℕ) (es : Table) where
       record { filled = filled-none lefts rights heads next e h; lefts-size = refl; rights-size = refl; next-size = refl }
 
   -- one more is pushed: the answer, and the pairs after it
-  module _ {lefts rights heads next lefts′ rights′ heads′ next′ : List ℕ} {i a b r : ℕ} (there : i < length es) (s : Filled f es lefts rights heads next i)
-      (p : Pushed lefts rights lefts′ rights′ heads′ next′ i a b r) (l : a ≡ f (entry es i .left)) (h : b ≡ f (entry es i .right)) where
+  module _ {lefts rights heads next lefts′ rights′ heads′ next′ : List ℕ} {i a b r : ℕ} (there : i < length es)
+      (s : Filled f es lefts rights heads next i) (p : Pushed lefts rights lefts′ rights′ heads′ next′ i a b r)
+      (l : a ≡ f (entry es i .left)) (h : b ≡ f (entry es i .right)) where
     pub filled-place : r ≡ placeBy f es i
     unfolding placeBy
     filled-place = p .place ∙ rw (l, h) (place-kept (s .kept) i _ _ (omega arith))
@@ -97,13 +98,16 @@ module _ (f : ℕ → ℕ) (es : Table) where
         rw (p .left, p .right) (record {
           indexed = rw (add-one, ← p .left, ← p .right) (p .indexed);
           kept = record {
-            left = below-more (λ j. getD (set lefts i a) j 0 ≡ getD (leftsBy f es) j 0) i (λ j k. old .left j k ∙ s .kept .left j k) (new .left ∙ l ∙ sym (own .left));
-            right = below-more (λ j. getD (set rights i b) j 0 ≡ getD (rightsBy f es) j 0) i (λ j k. old .right j k ∙ s .kept .right j k) (new .right ∙ h ∙ sym (own .right));
+            left = below-more (λ j. getD (set lefts i a) j 0 ≡ getD (leftsBy f es) j 0) i (λ j k. old .left j k ∙ s .kept .left j k)
+                (new .left ∙ l ∙ sym (own .left));
+            right = below-more (λ j. getD (set rights i b) j 0 ≡ getD (rightsBy f es) j 0) i (λ j k. old .right j k ∙ s .kept .right j k)
+                (new .right ∙ h ∙ sym (own .right));
           };
         })
 
   -- the slices have room for one more
-  module _ {lefts₀ rights₀ heads₀ next₀ lefts rights heads next : List ℕ} {i : ℕ} (room : Room lefts₀ rights₀ heads₀ next₀ (length es)) (there : i < length es)
+  module _ {lefts₀ rights₀ heads₀ next₀ lefts rights heads next : List ℕ} {i : ℕ}
+      (room : Room lefts₀ rights₀ heads₀ next₀ (length es)) (there : i < length es)
       (s : Filling f es lefts₀ rights₀ next₀ lefts rights heads next i) where
     pub push-room : (i < length lefts) × (i < length rights) × (i < length next)
     push-room = (
@@ -112,8 +116,9 @@ module _ (f : ℕ → ℕ) (es : Table) where
       omega (arith, room .next-fit, s .next-size),
     )
 
-    pub filling-more : {lefts′ rights′ heads′ next′ : List ℕ} {a b r : ℕ} → Pushed lefts rights lefts′ rights′ heads′ next′ i a b r → length next′ ≡ length next
-        → a ≡ f (entry es i .left) → b ≡ f (entry es i .right) → Filling f es lefts₀ rights₀ next₀ lefts′ rights′ heads′ next′ (i + 1)
+    pub filling-more : {lefts′ rights′ heads′ next′ : List ℕ} {a b r : ℕ} → Pushed lefts rights lefts′ rights′ heads′ next′ i a b r
+        → length next′ ≡ length next → a ≡ f (entry es i .left) → b ≡ f (entry es i .right)
+        → Filling f es lefts₀ rights₀ next₀ lefts′ rights′ heads′ next′ (i + 1)
     filling-more p n l h =
         record {
           filled = filled-more there (s .filled) p l h (push-room .0) (push-room .1);

@@ -1,5 +1,5 @@
 -- What the rows of entries and of terms hold, where their names and roots are known. Assumes nothing.
-use mathlib.Core.Path.{_≡_, ap, sym, _∙_}
+use mathlib.Core.Path.{_≡_, ap, _∙_}
 use mathlib.Core.List.{List}
 use mathlib.Core.Bool.{false, _&&_}
 use Prim.Native.Nat.{ℕ, _+_, _*_, _-_, _≤_, _<_}
@@ -8,9 +8,8 @@ use borrow.Author.Tests.{lt-ltb, le-ltb}
 use lib.ListN.{length, getD, take, drop}
 use lib.Dec.{eqb, ltb→lt}
 use Rattle.model.specs.Lists.{all, from}
-use Rattle.model.specs.Limits.{maxArity}
 use Rattle.model.specs.Term.{var, arguments, Book, Bindings, root}
-use Rattle.model.specs.Table.{Entry, holeAt, entry, holds}
+use Rattle.model.specs.Table.{Entry, holeAt, entry}
 use Rattle.model.specs.Area.{termWords, entryRowWords, kindOk}
 use Rattle.theory.proofs.Lists.Laws.{and-left}
 use Rattle.theory.proofs.Soundness.Facts.{Formed, Acyclic}
@@ -80,8 +79,17 @@ module _ {b : Book} {β : Bindings} {names entries : List ℕ} {m : ℕ} (k : Na
       ≡ eqb (at names (at entries (entryRowWords * i))) (at names t) && eqb (at names (at entries (entryRowWords * i + 1))) (at names u)
   unfolding argumentRight
   argument-names t u p q =
-      rw (length-tableOf entries m, lt-ltb i m l, holds-names b β t u (entry (tableOf entries m) i) p q left-term right-term,
-      entry-left entries m i l, entry-right entries m i l, k .is-name t p, k .is-name u q, k .is-name _ left-lt, k .is-name _ right-lt)
+      rw (
+        length-tableOf entries m,
+        lt-ltb i m l,
+        holds-names b β t u (entry (tableOf entries m) i) p q left-term right-term,
+        entry-left entries m i l,
+        entry-right entries m i l,
+        k .is-name t p,
+        k .is-name u q,
+        k .is-name _ left-lt,
+        k .is-name _ right-lt,
+      )
 
 -- there is no entry i
 pub argument-none : (b : Book) (β : Bindings) (entries : List ℕ) (m i t u : ℕ) → m ≤ i → argumentRight b β (tableOf entries m) i t u ≡ false

@@ -1,9 +1,8 @@
 -- The tests of a whole table: same-as by the places of names, pairs by their own places, and all tests together. Assumes nothing.
-use mathlib.Core.Path.{_≡_, refl, sym, _∙_}
+use mathlib.Core.Path.{_≡_, sym, _∙_}
 use mathlib.Core.List.{List}
 use mathlib.Core.Bool.{Bool, true, false, _&&_}
 use Prim.Native.Nat.{ℕ, _+_, _*_, _-_, _≤_, _<_}
-use lib.ListN.{length}
 use lib.Dec.{eqb}
 use Rattle.model.specs.Lists.{all}
 use Rattle.model.specs.Term.{Book, Bindings}
@@ -27,8 +26,10 @@ unfolding sameAsRight
 same-as-place {b} {β} {names} {entries} {m} k {i} l =
     let es = tableOf entries m in
     let size = length-tableOf entries m in
-    rw (entryOf-placeBy (at names) es b β (k .is-name) (λ j h. left-term k (rw size at h)) (λ j h. right-term k (rw size at h)) i (rw size l),
-    entry-same-as entries m i l)
+    rw (
+      entryOf-placeBy (at names) es b β (k .is-name) (λ j h. left-term k (rw size at h)) (λ j h. right-term k (rw size at h)) i (rw size l),
+      entry-same-as entries m i l,
+    )
 
 -- whether the pair of entry j has its first place there
 abbrev pub ownPlace : List ℕ → ℕ → ℕ → Bool

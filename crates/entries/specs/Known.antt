@@ -51,8 +51,8 @@ Answers P test r = (b : Book) (β : Bindings) → P b β → r ≡ test b β
 
 -- The slices have room for a list of m pairs and its index.
 pub record Room (lefts rights heads next : List ℕ) (m : ℕ) : Type 0 where
+  pub all-heads : length heads ≡ buckets
+  pub words : length lefts < 4294967296
   pub lefts-fit : m ≤ length lefts
   pub rights-fit : m ≤ length rights
   pub next-fit : m ≤ length next
-  pub words : length lefts < 4294967296
-  pub all-heads : length heads ≡ buckets

@@ -89,7 +89,8 @@ fn kind_fits(
     requires known { ⌜ Given (λ b β. Held b β (now rows) (now names) (now entries) m × (l < length b) × (r < length b)) ⌝ }
     requires there { ⌜ i < m ⌝ }
     ensures { λ x. ⌜ Answers (λ b β. Held b β (now (rows .entry)) (now (names .entry)) (now (entries .entry)) m × (l < length b) × (r < length b))
-        (λ b β. kindOk b β (tableOf (now (entries .entry)) m) (entry (tableOf (now (entries .entry)) m) i .kind) (nodeOf (now (rows .entry)) l) (nodeOf (now (rows .entry)) r)) x ⌝ }
+        (λ b β. kindOk b β (tableOf (now (entries .entry)) m) (entry (tableOf (now (entries .entry)) m) i .kind)
+        (nodeOf (now (rows .entry)) l) (nodeOf (now (rows .entry)) r)) x ⌝ }
 {
     let kind = ENTRY_WORDS * i + 2;
     if !alike(rows, l, r) {
@@ -109,7 +110,14 @@ fn kind_fits(
     let args_end = args + entries[kind + 2] as usize;
     let ls_end = ls + rows[left + 1] as usize;
     let rs_end = rs + rows[right + 1] as usize;
-    arguments_ok(names, entries, m, &entries[args..args_end], &rows[ls..ls_end], &rows[rs..rs_end])
+    arguments_ok(
+        names,
+        entries,
+        m,
+        &entries[args..args_end],
+        &rows[ls..ls_end],
+        &rows[rs..rs_end],
+    )
 }
 
 // Whether the kind of entry `i` is right for what its sides stand for.
@@ -122,7 +130,15 @@ fn kind_ok(rows: &[u32], roots: &[u32], names: &[u32], entries: &[u32], m: usize
     let row = ENTRY_WORDS * i;
     let left = entries[row] as usize;
     let right = entries[row + 1] as usize;
-    kind_fits(rows, names, entries, m, i, roots[left] as usize, roots[right] as usize)
+    kind_fits(
+        rows,
+        names,
+        entries,
+        m,
+        i,
+        roots[left] as usize,
+        roots[right] as usize,
+    )
 }
 
 // Whether the kind of each of the `m` entries is right.
@@ -173,8 +189,8 @@ pub fn same_as_ok(
 
 // Whether no two of the `m` entries hold the same two term numbers.
 pub fn distinct_ok(
-    entries: &[u32],
     m: usize,
+    entries: &[u32],
     lefts: &mut [u32],
     rights: &mut [u32],
     heads: &mut [u32],
@@ -188,7 +204,15 @@ pub fn distinct_ok(
     let mut i = 0;
     while i < m {
         let row = ENTRY_WORDS * i;
-        let place = pairs::push(lefts, rights, heads, next, i, entries[row], entries[row + 1]);
+        let place = pairs::push(
+            lefts,
+            rights,
+            heads,
+            next,
+            i,
+            entries[row],
+            entries[row + 1],
+        );
         if place != i {
             return false;
         }
@@ -199,20 +223,21 @@ pub fn distinct_ok(
 
 // Whether the table of `m` entries passes the tests that look at values and at pairs of entries.
 pub fn table_ok(
+    lefts: &mut [u32],
+    rights: &mut [u32],
+    heads: &mut [u32],
+    next: &mut [u32],
     rows: &[u32],
     roots: &[u32],
     names: &[u32],
     entries: &[u32],
     m: usize,
-    lefts: &mut [u32],
-    rights: &mut [u32],
-    heads: &mut [u32],
-    next: &mut [u32],
 ) -> bool
     requires known { ⌜ Given (λ b β. Known b β (now rows) (now roots) (now names) (now entries) m) ⌝ }
     requires room { ⌜ Room (now lefts) (now rights) (now heads) (now next) m ⌝ }
     ensures { λ x. ⌜ Answers (λ b β. Known b β (now (rows .entry)) (now (roots .entry)) (now (names .entry)) (now (entries .entry)) m)
-        (λ b β. all (valuesOk b β (tableOf (now (entries .entry)) m)) (tableOf (now (entries .entry)) m) && distinct (tableOf (now (entries .entry)) m)) x ⌝ }
+        (λ b β. all (valuesOk b β (tableOf (now (entries .entry)) m)) (tableOf (now (entries .entry)) m)
+        && distinct (tableOf (now (entries .entry)) m)) x ⌝ }
 {
     if !kinds_ok(rows, roots, names, entries, m) {
         return false;
@@ -220,5 +245,5 @@ pub fn table_ok(
     if !same_as_ok(names, entries, m, lefts, rights, heads, next) {
         return false;
     }
-    distinct_ok(entries, m, lefts, rights, heads, next)
+    distinct_ok(m, entries, lefts, rights, heads, next)
 }

@@ -154,7 +154,7 @@ pub fn state_ok(
         return false;
     }
     let m = h.entries as usize;
-    entries::table_ok(rows, roots, names, entries, m, lefts, rights, heads, next)
+    entries::table_ok(lefts, rights, heads, next, rows, roots, names, entries, m)
 }
 
 // Loads an area whose header is in order, and says whether the area is sound; then the slices hold the words of its state, the

@@ -51,7 +51,8 @@ loop-again c b β k =
 
 returns-4 : tie.Need-returns-4 Inv-loop μ-loop
 returns-4 c b β k =
-    sym (arguments-passed b β _ _ _ _ _ (c .loop-test .left) (c .before .before .before .if1 .left) (c .before .before .if2 .left) (c .before .loop .inv b β k))
+    sym (arguments-passed b β _ _ _ _ _ (c .loop-test .left) (c .before .before .before .if1 .left) (c .before .before .if2 .left)
+    (c .before .loop .inv b β k))
 
 pub arguments-ok-spec : {M : Type 1} → statement M
 arguments-ok-spec =

@@ -1,7 +1,7 @@
 -- `entries::distinct_ok` meets its contract: the loop's invariant says that the pairs of the entries before `i` are pushed and
 -- that each had its first place there, and the measure is the entries that are left. Assumes nothing.
 use mathlib.Core.Path.{_≡_, sym, _∙_}
-use Prim.Native.Nat.{_-_, _<_}
+use Prim.Native.Nat.{_-_}
 use native.Mathlib.Omega.{arith}
 use borrow.Author.Count.{below-none, below-more}
 use borrow.Author.Needs.{needs}
@@ -19,49 +19,64 @@ use Rattle.entries.proofs.distinct_ok.Statement.{statement}
 use Rattle.entries.proofs.distinct_ok.Tie as tie
 
 abbrev Inv-loop : tie.InvT-loop
-Inv-loop entries m lefts₀ rights₀ heads₀ next₀ i₀ lefts rights heads next i =
+Inv-loop m entries lefts₀ rights₀ heads₀ next₀ i₀ lefts rights heads next i =
     Filling (λ t. t) (tableOf entries m) lefts₀ rights₀ next₀ lefts rights heads next i × Passed (ownPlace entries m) i
 
 abbrev μ-loop : tie.MeasureT-loop
-μ-loop entries m lefts₀ rights₀ heads₀ next₀ i₀ lefts rights heads next i = m - i
+μ-loop m entries lefts₀ rights₀ heads₀ next₀ i₀ lefts rights heads next i = m - i
 
--- the start of a turn, from its call
+-- the start of a turn, from its call, and of the function, from its loop
 abbrev turn : tie.After-push Inv-loop μ-loop → tie.In-loop Inv-loop μ-loop
 turn c = c .before .before .before .before .before .before .before
 
+abbrev start : tie.At-loop Inv-loop μ-loop → tie.Start Inv-loop μ-loop
+start c = c .before .before .before .before .before .before .before .before .before .before
+
 -- there is room for as many pairs as there are entries
 room : (c : tie.At-loop Inv-loop μ-loop) →
-    let a = c .before .before .before .before .before .before .before .before .before .before .args in Room (now (a .lefts)) (now (a .rights)) (now (a .heads)) (now (a .next)) (length (tableOf (now (a .entries)) (a .m)))
-room c = rw length-tableOf (c .before .before .before .before .before .before .before .before .before .before .pre .1)
+    let a = start c .args in
+    Room (now (a .lefts)) (now (a .rights)) (now (a .heads)) (now (a .next)) (length (tableOf (now (a .entries)) (a .m)))
+room c = rw length-tableOf (start c .pre .1)
 
 loop-holds : tie.Need-loop-holds Inv-loop μ-loop
 loop-holds c =
-    (filling-none _ _ _ _ _ _ (c .before .before .clear .ensures) (c .before .before .before .before .before .before .before .before .before .pre .1 .words), below-none _)
+    let s = c .before .before .before .before .before .before .before .before .before in
+    (filling-none _ _ _ _ _ _ (c .before .before .clear .ensures) (s .pre .1 .words), below-none _)
 
 push-requires : tie.Need-push-requires Inv-loop μ-loop
 push-requires c κs =
     let t = c .before .before .before .before .before .before in
-    let h = t .before .loop .inv .0 in (h .filled .indexed, push-room _ _ (room (t .before)) (rw length-tableOf (t .loop-test .taken)) h)
+    let h = t .before .loop .inv .0 in
+    (h .filled .indexed, push-room _ _ (room (t .before)) (rw length-tableOf (t .loop-test .taken)) h)
 
 -- what the call answers
 place : (c : tie.After-push Inv-loop μ-loop) →
-    let a = c .before .before .before .before .before .before .before .before .before .before .before .before .before .before .before .before .before .before .args in c .push .result ≡ placeBy (λ t. t) (tableOf (now (a .entries)) (a .m)) (turn c .before .loop .i)
+    let a = start (turn c .before) .args in
+    c .push .result ≡ placeBy (λ t. t) (tableOf (now (a .entries)) (a .m)) (turn c .before .loop .i)
 place c =
-    let t = turn c in
-    filled-place _ _ (rw length-tableOf (t .loop-test .taken)) (t .before .loop .inv .0 .filled) (c .push .ensures)
-    (sym (entry-left _ _ _ (t .loop-test .taken))) (sym (entry-right _ _ _ (t .loop-test .taken)))
+    let l = turn c .loop-test .taken in
+    filled-place _ _ (rw length-tableOf l) (turn c .before .loop .inv .0 .filled) (c .push .ensures)
+    (sym (entry-left _ _ _ l)) (sym (entry-right _ _ _ l))
 
 same-length : tie.Need-same-length Inv-loop μ-loop
-same-length c = let p = c .before .before .before .before .before .before .before .before .before in p .push .kept .0 ∙ turn p .before .loop .inv .0 .lefts-size
+same-length c =
+    let p = c .before .before .before .before .before .before .before .before .before in
+    p .push .kept .0 ∙ turn p .before .loop .inv .0 .lefts-size
 
 same-length-2 : tie.Need-same-length-2 Inv-loop μ-loop
-same-length-2 c = let p = c .before .before .before .before .before .before .before .before .before in p .push .kept .1 .0 ∙ turn p .before .loop .inv .0 .rights-size
+same-length-2 c =
+    let p = c .before .before .before .before .before .before .before .before .before in
+    p .push .kept .1 .0 ∙ turn p .before .loop .inv .0 .rights-size
 
 same-length-3 : tie.Need-same-length-3 Inv-loop μ-loop
-same-length-3 c = let p = c .before .before .before .before .before .before .before .before .before in omega (arith, p .push .ensures .indexed .all-heads, room (turn p .before) .all-heads)
+same-length-3 c =
+    let p = c .before .before .before .before .before .before .before .before .before in
+    omega (arith, p .push .ensures .indexed .all-heads, room (turn p .before) .all-heads)
 
 same-length-4 : tie.Need-same-length-4 Inv-loop μ-loop
-same-length-4 c = let p = c .before .before .before .before .before .before .before .before .before in p .push .kept .1 .1 .1 .0 ∙ turn p .before .loop .inv .0 .next-size
+same-length-4 c =
+    let p = c .before .before .before .before .before .before .before .before .before in
+    p .push .kept .1 .1 .1 .0 ∙ turn p .before .loop .inv .0 .next-size
 
 returns : tie.Need-returns Inv-loop μ-loop
 returns c =
@@ -72,9 +87,10 @@ loop-again : tie.Need-loop-again Inv-loop μ-loop
 loop-again c =
     let p = c .before .before .before .before .before .before .before .before .before in
     let t = turn p in
+    let l = t .loop-test .taken in
     let h = t .before .loop .inv in (
-      filling-more _ _ (room (t .before)) (rw length-tableOf (t .loop-test .taken)) (h .0) (p .push .ensures) (p .push .kept .1 .1 .1 .0)
-          (sym (entry-left _ _ _ (t .loop-test .taken))) (sym (entry-right _ _ _ (t .loop-test .taken))),
+      filling-more _ _ (room (t .before)) (rw length-tableOf l) (h .0) (p .push .ensures) (p .push .kept .1 .1 .1 .0)
+          (sym (entry-left _ _ _ l)) (sym (entry-right _ _ _ l)),
       below-more _ _ (h .1) (eq-eqb _ _ (sym (place p) ∙ c .if1 .left)),
     )
 

@@ -1,40 +1,58 @@
 -- `entries::kind_ok` meets its contract: the sides of the entry are terms, and so is what they stand for. Assumes nothing.
 use mathlib.Core.Path.{sym, _∙_}
+use Prim.Native.Nat.{_+_, _*_, _<_}
 use native.Mathlib.Omega.{arith}
 use borrow.Author.Needs.{needs}
+use denote.Ref.{now}
+use lib.ListN.{length}
+use Rattle.model.specs.Area.{entryRowWords}
+use Rattle.layout.specs.Rows.{at}
 use Rattle.entries.proofs.Rows.{left-lt, right-lt, root-lt, kind-roots}
 use Rattle.entries.proofs.kind_ok.Statement.{statement}
 use Rattle.entries.proofs.kind_ok.Tie as tie
 
+-- the sides are terms
+left : (c : tie.Start) → at (now (c .args .entries)) (entryRowWords * c .args .i) < length (c .pre .0 .book)
+left c = left-lt (c .pre .0 .known .held .named) (c .pre .1)
+
+right : (c : tie.Start) → at (now (c .args .entries)) (entryRowWords * c .args .i + 1) < length (c .pre .0 .book)
+right c = right-lt (c .pre .0 .known .held .named) (c .pre .1)
+
 cast-left : tie.Need-cast-left
-cast-left c = let p = c .before .before .before .before .before .pre in omega (arith, left-lt (p .0 .known .held .named) (p .1))
+cast-left c = omega (arith, left (c .before .before .before .before .before))
 
 cast-right : tie.Need-cast-right
-cast-right c = let p = c .before .before .before .before .before .before .pre in omega (arith, right-lt (p .0 .known .held .named) (p .1))
+cast-right c = omega (arith, right (c .before .before .before .before .before .before))
 
 mul-kind-fits : tie.Need-mul-kind-fits
-mul-kind-fits c = let p = c .before .before .before .before .before .before .pre in omega (arith, left-lt (p .0 .known .held .named) (p .1))
+mul-kind-fits c = omega (arith, left (c .before .before .before .before .before .before))
 
 shared-slice-read-kind-fits : tie.Need-shared-slice-read-kind-fits
-shared-slice-read-kind-fits c = let p = c .before .before .before .before .before .before .before .pre in omega (arith, left-lt (p .0 .known .held .named) (p .1))
+shared-slice-read-kind-fits c = omega (arith, left (c .before .before .before .before .before .before .before))
 
 cast-kind-fits : tie.Need-cast-kind-fits
-cast-kind-fits c = let p = c .before .before .before .before .before .before .before .pre in omega (arith, root-lt (p .0 .known) (left-lt (p .0 .known .held .named) (p .1)))
+cast-kind-fits c =
+    let s = c .before .before .before .before .before .before .before in
+    omega (arith, root-lt (s .pre .0 .known) (left s))
 
 mul-kind-fits-2 : tie.Need-mul-kind-fits-2
-mul-kind-fits-2 c = let p = c .before .before .before .before .before .before .before .pre in omega (arith, right-lt (p .0 .known .held .named) (p .1))
+mul-kind-fits-2 c = omega (arith, right (c .before .before .before .before .before .before .before))
 
 shared-slice-read-kind-fits-2 : tie.Need-shared-slice-read-kind-fits-2
-shared-slice-read-kind-fits-2 c = let p = c .before .before .before .before .before .before .before .before .pre in omega (arith, right-lt (p .0 .known .held .named) (p .1))
+shared-slice-read-kind-fits-2 c = omega (arith, right (c .before .before .before .before .before .before .before .before))
 
 cast-kind-fits-2 : tie.Need-cast-kind-fits-2
-cast-kind-fits-2 c = let p = c .before .before .before .before .before .before .before .before .pre in omega (arith, root-lt (p .0 .known) (right-lt (p .0 .known .held .named) (p .1)))
+cast-kind-fits-2 c =
+    let s = c .before .before .before .before .before .before .before .before in
+    omega (arith, root-lt (s .pre .0 .known) (right s))
 
 kind-fits-requires : tie.Need-kind-fits-requires
 kind-fits-requires c κs =
-    let p = c .before .before .before .before .before .before .before .before .pre in
-    let k = p .0 .known in
-    let n = k .held .named in (record { book = p .0 .book; bound = p .0 .bound; known = (k .held, root-lt k (left-lt n (p .1)), root-lt k (right-lt n (p .1))) }, p .1)
+    let s = c .before .before .before .before .before .before .before .before in
+    let k = s .pre .0 .known in (
+      record { book = s .pre .0 .book; bound = s .pre .0 .bound; known = (k .held, root-lt k (left s), root-lt k (right s)) },
+      s .pre .1,
+    )
 
 returns : tie.Need-returns
 returns c b β k =

@@ -39,41 +39,59 @@ start c = c .before .before .before .before .before .before .before .before .bef
 
 -- there is room for as many pairs as there are entries
 room : (c : tie.At-loop Inv-loop μ-loop) →
-    let a = start c .args in Room (now (a .lefts)) (now (a .rights)) (now (a .heads)) (now (a .next)) (length (tableOf (now (a .entries)) (a .m)))
+    let a = start c .args in
+    Room (now (a .lefts)) (now (a .rights)) (now (a .heads)) (now (a .next)) (length (tableOf (now (a .entries)) (a .m)))
 room c = rw length-tableOf (start c .pre .1)
 
 loop-holds : tie.Need-loop-holds Inv-loop μ-loop
-loop-holds c = (filling-none _ _ _ _ _ _ (c .before .before .clear .ensures) (c .before .before .before .before .before .before .before .before .before .before .pre .1 .words), λ b β k. below-none _)
+loop-holds c =
+    let s = c .before .before .before .before .before .before .before .before .before .before in
+    (filling-none _ _ _ _ _ _ (c .before .before .clear .ensures) (s .pre .1 .words), λ b β k. below-none _)
 
 -- the sides are terms
-left-term : (c : tie.In-loop Inv-loop μ-loop) → at (now (start (c .before) .args .entries)) (entryRowWords * c .before .loop .i) < length (start (c .before) .pre .0 .book)
+left-term : (c : tie.In-loop Inv-loop μ-loop) →
+    let s = start (c .before) in
+    at (now (s .args .entries)) (entryRowWords * c .before .loop .i) < length (s .pre .0 .book)
 left-term c = left-lt (start (c .before) .pre .0 .known) (c .loop-test .taken)
 
-right-term : (c : tie.In-loop Inv-loop μ-loop) → at (now (start (c .before) .args .entries)) (entryRowWords * c .before .loop .i + 1) < length (start (c .before) .pre .0 .book)
+right-term : (c : tie.In-loop Inv-loop μ-loop) →
+    let s = start (c .before) in
+    at (now (s .args .entries)) (entryRowWords * c .before .loop .i + 1) < length (s .pre .0 .book)
 right-term c = right-lt (start (c .before) .pre .0 .known) (c .loop-test .taken)
 
 cast-left : tie.Need-cast-left Inv-loop μ-loop
 cast-left c = omega (arith, left-term (c .before), start (c .before .before) .pre .0 .known .names-fit)
 
 cast-right : tie.Need-cast-right Inv-loop μ-loop
-cast-right c = let t = c .before .before in omega (arith, right-term t, start (t .before) .pre .0 .known .names-fit)
+cast-right c =
+    let t = c .before .before in
+    omega (arith, right-term t, start (t .before) .pre .0 .known .names-fit)
 
 mul-push : tie.Need-mul-push Inv-loop μ-loop
-mul-push c = let t = c .before .before .before .before .before .before in omega (arith, left-term t, start (t .before) .pre .0 .known .names-fit)
+mul-push c =
+    let t = c .before .before .before .before .before .before in
+    omega (arith, left-term t, start (t .before) .pre .0 .known .names-fit)
 
 shared-slice-read-push : tie.Need-shared-slice-read-push Inv-loop μ-loop
-shared-slice-read-push c = let t = c .before .before .before .before .before .before .before in omega (arith, left-term t, start (t .before) .pre .0 .known .names-fit)
+shared-slice-read-push c =
+    let t = c .before .before .before .before .before .before .before in
+    omega (arith, left-term t, start (t .before) .pre .0 .known .names-fit)
 
 mul-push-2 : tie.Need-mul-push-2 Inv-loop μ-loop
-mul-push-2 c = let t = c .before .before .before .before .before .before .before in omega (arith, right-term t, start (t .before) .pre .0 .known .names-fit)
+mul-push-2 c =
+    let t = c .before .before .before .before .before .before .before in
+    omega (arith, right-term t, start (t .before) .pre .0 .known .names-fit)
 
 shared-slice-read-push-2 : tie.Need-shared-slice-read-push-2 Inv-loop μ-loop
-shared-slice-read-push-2 c = let t = c .before .before .before .before .before .before .before .before in omega (arith, right-term t, start (t .before) .pre .0 .known .names-fit)
+shared-slice-read-push-2 c =
+    let t = c .before .before .before .before .before .before .before .before in
+    omega (arith, right-term t, start (t .before) .pre .0 .known .names-fit)
 
 push-requires : tie.Need-push-requires Inv-loop μ-loop
 push-requires c κs =
     let t = c .before .before .before .before .before .before .before .before in
-    let h = t .before .loop .inv .0 in (h .filled .indexed, push-room _ _ (room (t .before)) (rw length-tableOf (t .loop-test .taken)) h)
+    let h = t .before .loop .inv .0 in
+    (h .filled .indexed, push-room _ _ (room (t .before)) (rw length-tableOf (t .loop-test .taken)) h)
 
 cast-if1 : tie.Need-cast-if1 Inv-loop μ-loop
 cast-if1 c =
@@ -82,24 +100,34 @@ cast-if1 c =
 
 -- what the call answers
 place : (c : tie.After-push Inv-loop μ-loop) →
-    let a = start (turn c .before) .args in c .push .result ≡ placeBy (at (now (a .names))) (tableOf (now (a .entries)) (a .m)) (turn c .before .loop .i)
+    let a = start (turn c .before) .args in
+    c .push .result ≡ placeBy (at (now (a .names))) (tableOf (now (a .entries)) (a .m)) (turn c .before .loop .i)
 place c =
     let t = turn c in
     let l = t .loop-test .taken in
     let f = at (now (start (t .before) .args .names)) in
-    filled-place _ _ (rw length-tableOf l) (t .before .loop .inv .0 .filled) (c .push .ensures) (ap f (sym (entry-left _ _ _ l))) (ap f (sym (entry-right _ _ _ l)))
+    filled-place _ _ (rw length-tableOf l) (t .before .loop .inv .0 .filled) (c .push .ensures)
+    (ap f (sym (entry-left _ _ _ l))) (ap f (sym (entry-right _ _ _ l)))
 
 same-length : tie.Need-same-length Inv-loop μ-loop
-same-length c = let p = c .before .before .before .before .before .before .before .before .before .before in p .push .kept .0 ∙ turn p .before .loop .inv .0 .lefts-size
+same-length c =
+    let p = c .before .before .before .before .before .before .before .before .before .before in
+    p .push .kept .0 ∙ turn p .before .loop .inv .0 .lefts-size
 
 same-length-2 : tie.Need-same-length-2 Inv-loop μ-loop
-same-length-2 c = let p = c .before .before .before .before .before .before .before .before .before .before in p .push .kept .1 .0 ∙ turn p .before .loop .inv .0 .rights-size
+same-length-2 c =
+    let p = c .before .before .before .before .before .before .before .before .before .before in
+    p .push .kept .1 .0 ∙ turn p .before .loop .inv .0 .rights-size
 
 same-length-3 : tie.Need-same-length-3 Inv-loop μ-loop
-same-length-3 c = let p = c .before .before .before .before .before .before .before .before .before .before in omega (arith, p .push .ensures .indexed .all-heads, room (turn p .before) .all-heads)
+same-length-3 c =
+    let p = c .before .before .before .before .before .before .before .before .before .before in
+    omega (arith, p .push .ensures .indexed .all-heads, room (turn p .before) .all-heads)
 
 same-length-4 : tie.Need-same-length-4 Inv-loop μ-loop
-same-length-4 c = let p = c .before .before .before .before .before .before .before .before .before .before in p .push .kept .1 .1 .1 .0 ∙ turn p .before .loop .inv .0 .next-size
+same-length-4 c =
+    let p = c .before .before .before .before .before .before .before .before .before .before in
+    p .push .kept .1 .1 .1 .0 ∙ turn p .before .loop .inv .0 .next-size
 
 returns : tie.Need-returns Inv-loop μ-loop
 returns c b β k =

@@ -14,27 +14,33 @@ returns c b β k = rw (table-values b β _, sym (c .before .kinds-ok .ensures b 
 -- a same-as is wrong
 returns-2 : tie.Need-returns-2
 returns-2 c b β k =
-    let first = c .before .before .before .before .before .before .before .before .before .before .before .before .before .before in
+    let called = c .before .before .before .before .before .before .before .before .before in
+    let first = called .before .before .before .before .before in
     rw (
       table-values b β _,
       sym (first .before .kinds-ok .ensures b β k) ∙ not-false _ (first .if1 .left),
-      sym (c .before .before .before .before .before .before .before .before .before .same-as-ok .ensures b β (k .held .named)) ∙ not-true _ (c .if2 .taken),
+      sym (called .same-as-ok .ensures b β (k .held .named)) ∙ not-true _ (c .if2 .taken),
     )
 
 distinct-ok-requires : tie.Need-distinct-ok-requires
 distinct-ok-requires c κs =
-    let s = c .before .before .before .before .before .before .before .before .before .before .before .before .before .before .before .before .before .before .before .before .before .before .before .before .before .before .before .before .pre in
-    let kept = c .before .before .before .before .before .before .before .before .before .before .before .before .before .same-as-ok .kept in (s .0 .known .held .named .entries-fit, room-kept (s .1) (kept .1 .1 .1 .0) (kept .1 .1 .1 .1 .0) (kept .1 .1 .1 .1 .1 .0) (kept .1 .1 .1 .1 .1 .1 .0))
+    let called = c .before .before .before .before .before .before .before .before .before .before .before .before .before in
+    let s = called .before .before .before .before .before .before .before .before .before .before .before .before .before .before .before .pre in
+    let kept = called .same-as-ok .kept in (
+      s .0 .known .held .named .entries-fit,
+      room-kept (s .1) (kept .1 .1 .1 .0) (kept .1 .1 .1 .1 .0) (kept .1 .1 .1 .1 .1 .0) (kept .1 .1 .1 .1 .1 .1 .0),
+    )
 
 -- no kind and no same-as is wrong
 returns-3 : tie.Need-returns-3
 returns-3 c b β k =
     let second = c .before .before .before .before .before .before .before .before .before .before .before .before .before in
-    let first = second .before .before .before .before .before .before .before .before .before .before .before .before .before .before in
+    let called = second .before .before .before .before .before .before .before .before .before in
+    let first = called .before .before .before .before .before in
     rw (
       table-values b β _,
       sym (first .before .kinds-ok .ensures b β k) ∙ not-false _ (first .if1 .left),
-      sym (second .before .before .before .before .before .before .before .before .before .same-as-ok .ensures b β (k .held .named)) ∙ not-false _ (second .if2 .left),
+      sym (called .same-as-ok .ensures b β (k .held .named)) ∙ not-false _ (second .if2 .left),
     )
     (c .before .before .before .before .before .before .before .before .distinct-ok .ensures)
 

@@ -42,9 +42,7 @@ table-asks e =
     let named = e .before .before .before .before .before .before .before .before .before .before .before .before .before .before .before .before .before in
     let first = named .before .before .before .before .before .before .before .before .before in
     let s = first .before .before .before .before .before .before .before .before .before .before .before .before .before .before in
-    let kept = named .name-terms .kept in
-    let room = s .pre .1 .0 in
-    table-known (state-at s) (s .pre .0) (true-T _ (rows-right first)) (rw (kept .1 .1 .1 .1 .1 .0) (room .roots-fit)) (rw (kept .1 .1 .1 .1 .1 .1 .0) (room .names-fit)) (values-known e)
+    table-known (state-at s) (s .pre .0) (true-T _ (rows-right first)) (values-known e)
 
 returns : tie.Need-returns
 returns c =

@@ -15,6 +15,14 @@ size_t fit_area_length(uint32_t capacity);
 /* Opens a book in an area. Gives 0, or refusal 4, 7, 1, 2, 3, 5 or 6; a refusal changes no byte. */
 uint32_t fit_open(uint32_t capacity, const uint8_t *book, size_t book_length, uint8_t *area, size_t area_length);
 
+/* Reads entry i into fields: left, right, kind (0 open, 1 common), symbol, count, eight argument entries, same-as. Gives 0, or
+   refusal 7 or 8 and zeros in fields. */
+uint32_t fit_entry(const uint8_t *area, size_t area_length, uint32_t i, uint32_t fields[14]);
+
+/* Writes the area's book to out; choices are not written. Gives 0 and the number of bytes in *written, or refusal 7 or 13 and 0
+   in *written; a refusal changes no byte of out. */
+uint32_t fit_write(const uint8_t *area, size_t area_length, uint8_t *out, size_t out_length, uint32_t *written);
+
 /* Reads a book and writes it back to out, with no area. Gives 0 and the number of bytes in *written, or refusal 1 to 6 or
    13 and 0 in *written; a refusal changes no byte of out. */
 uint32_t fit_copy_book(const uint8_t *book, size_t book_length, uint8_t *out, size_t out_length, uint32_t *written);

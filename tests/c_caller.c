@@ -49,9 +49,28 @@ static int copies(void)
     return fit_copy_book(book_a, sizeof book_a, out, sizeof book_a - 1, &written) == 13 && written == 0;
 }
 
+/* A book just opened has no entry, and is written back; an area that is not sound is refused. */
+static int reads(void)
+{
+    uint32_t fields[15], written = 99;
+    size_t i;
+    memset(fields, 0xEE, sizeof fields);
+    memset(out, 0xEE, sizeof out);
+    if (fit_open(1, book_a, sizeof book_a, area, sizeof area) != 0 || fit_entry(area, sizeof area, 0, fields) != 8)
+        return 0;
+    for (i = 0; i < 14; i++)
+        if (fields[i] != 0)
+            return 0;
+    if (fields[14] != 0xEEEEEEEE || fit_write(area, sizeof area, out, sizeof out, &written) != 0 || written != sizeof book_a
+        || memcmp(out, book_a, sizeof book_a) != 0 || out[sizeof book_a] != 0xEE)
+        return 0;
+    return fit_write(area, sizeof area, out, sizeof book_a - 1, &written) == 13 && written == 0
+        && fit_write(area, 46151, out, sizeof out, &written) == 7 && fit_entry(area, 0, 0, fields) == 7;
+}
+
 int main(void)
 {
-    int passed = opens() + refuses() + copies();
-    printf("%d passed, %d failed\n", passed, 3 - passed);
-    return passed == 3 ? 0 : 1;
+    int passed = opens() + refuses() + copies() + reads();
+    printf("%d passed, %d failed\n", passed, 4 - passed);
+    return passed == 4 ? 0 : 1;
 }

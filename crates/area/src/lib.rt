@@ -107,6 +107,29 @@ pub fn entry_at(rows: &[u32], i: usize) -> Entry
     }
 }
 
+// The words of an entry.
+pub fn row_of(e: Entry) -> [u32; layout::ENTRY_WORDS]
+    ensures { λ r. ⌜ r ≡ rowOf e ⌝ }
+{
+    let a = e.arguments;
+    [
+        e.left,
+        e.right,
+        e.kind,
+        e.symbol,
+        e.count,
+        a[0],
+        a[1],
+        a[2],
+        a[3],
+        a[4],
+        a[5],
+        a[6],
+        a[7],
+        e.same_as,
+    ]
+}
+
 // Puts the words at place `at`.
 fn put_words(rows: &mut [u32], at: usize, words: &[u32])
     requires { ⌜ at + length (now words) ≤ length (now rows) ⌝ }
@@ -124,22 +147,6 @@ pub fn put_entry(rows: &mut [u32], i: usize, e: Entry)
     requires { ⌜ entryRowWords * i + entryRowWords ≤ length (now rows) ⌝ }
     ensures { λ _. ⌜ now (rows .exit) ≡ paste (now (rows .entry)) (entryRowWords * i) (rowOf e) entryRowWords ⌝ }
 {
-    let a = e.arguments;
-    let row = [
-        e.left,
-        e.right,
-        e.kind,
-        e.symbol,
-        e.count,
-        a[0],
-        a[1],
-        a[2],
-        a[3],
-        a[4],
-        a[5],
-        a[6],
-        a[7],
-        e.same_as,
-    ];
+    let row = row_of(e);
     put_words(rows, layout::ENTRY_WORDS * i, &row);
 }

@@ -1,40 +1,29 @@
--- Copying a book by way of its rows: what the decoder leaves can be encoded, and what the encoder then writes is the outcome
--- of the call. Assumes nothing.
+-- Copying a book by way of its rows, and writing the book of an area: the rows hold the book, and what is emitted of it is the
+-- outcome of the call. Assumes nothing.
 use mathlib.Core.Path.{_≡_, refl, sym, ap, _∙_}
-use mathlib.Core.List.{List, [], _∷_, _++_, map}
+use mathlib.Core.List.{List, [], map}
+use mathlib.Core.Bool.{true, false}
 use mathlib.Core.Option.{none}
-use Prim.Native.Nat.{ℕ, _+_, _*_, _≤_, _<_}
-use native.Mathlib.Omega.{arith}
-use lib.ListN.{length, drop}
-use lib.Dec.{T}
-use Rattle.leb128.specs.Number.{maxGroups}
+use Prim.Native.Nat.{ℕ, _*_}
+use lib.ListN.{length}
 use Rattle.model.specs.Limits.{office}
 use Rattle.model.specs.Term.{Node, Book}
-use Rattle.model.specs.Area.{termWords}
+use Rattle.model.specs.Area.{termWords, word, sound, stateOf}
 use Rattle.model.specs.BookBytes.{parseBook, bookBytes}
-use Rattle.model.specs.Call.{Outcome, refuse, accept, over, callCopy}
-use Rattle.theory.proofs.Soundness.Facts.{Formed}
+use Rattle.model.specs.Call.{refuse, guard, emit, callCopy, callWrite}
 use Rattle.theory.proofs.Book.Round.{parsed-formed}
 use Rattle.layout.specs.Rows.{bookOf}
-use Rattle.book.specs.Rows.{bookRows, encodable, refusalOf, decodedBook}
-use Rattle.book.proofs.RowsBook.{rows-book, rows-encodable, book-bytes}
-use Rattle.fit.proofs.OpenCases.{decoded, copy-refused, copy-thirteen, copy-accepted}
+use Rattle.book.specs.Rows.{bookRows, refusalOf, decodedBook}
+use Rattle.state.specs.Loading.{held, headerOf}
+use Rattle.state.specs.Ready.{Read}
+use Rattle.state.proofs.Uses.{read-facts, read-rows, read-terms}
+use Rattle.fit.proofs.OpenCases.{decoded, copy-refused, copy-parsed}
+use Rattle.fit.proofs.Emitted.{Writes, writes, emit-anywhere, BookHeld, held-book}
 
--- The outcome of the call is this refusal, this number of bytes and this output.
-abbrev pub Copied : List ℕ → List ℕ → ℕ → ℕ → List ℕ → Type 0
-Copied book out refusal written out′ =
-    (refusal ≡ callCopy office book out .refusal) × ((written ∷ [] ≡ callCopy office book out .numbers) × (out′ ≡ callCopy office book out .output))
-
--- the parts of an outcome that is known
-copied : (book out : List ℕ) (o : Outcome) (written : ℕ) → callCopy office book out ≡ o → o .numbers ≡ written ∷ []
-    → Copied book out (o .refusal) written (o .output)
-copied book out o written e n = (ap (λ o. o .refusal) (sym e), (sym (ap (λ o. o .numbers) e ∙ n), ap (λ o. o .output) (sym e)))
-
--- a book that is refused
-pub copied-refused : (book out : List ℕ) (n : ℕ) → n ≡ refusalOf (parseBook office book) → (n ≡ 0 → ⊥) → Copied book out n 0 out
+-- COPYING. A book that is refused
+pub copied-refused : (book out : List ℕ) (n : ℕ) → n ≡ refusalOf (parseBook office book) → (n ≡ 0 → ⊥) → Writes (callCopy office book out) n 0 out
 unfolding refuse
-copied-refused book out n e h =
-    rw e (copied book out (refuse 1 (refusalOf (parseBook office book)) [] out) 0 (copy-refused book out (λ z. h (e ∙ z))) refl)
+copied-refused book out n e h = rw e (writes (copy-refused book out (λ z. h (e ∙ z))) (refl, (refl, refl)))
 
 -- What the decoder leaves where it refuses nothing: the rows of a book, and the number of its terms.
 pub record Decoded (book rows : List ℕ) (terms : ℕ) : Type 0 where
@@ -47,38 +36,39 @@ module _ {book rows : List ℕ} {terms : ℕ} (d : Decoded book rows terms) wher
   abbrev the-book : Book
   the-book = decodedBook (parseBook office book)
 
-  -- it obeys the rules and has at most as many terms as the limit, so the rows have room for it
-  formed : Formed the-book (map (λ (n : Node). none) the-book) × (length the-book ≤ office .maxTerms)
-  formed = let p = decoded book (d .none-refused) in parsed-formed office book the-book (p .0) (p .1)
+  -- the rows hold it
+  pub decoded-held : BookHeld rows terms the-book (map (λ (n : Node). none) the-book)
+  decoded-held =
+      let p = decoded book (d .none-refused) in
+      let f = parsed-formed office book the-book (p .0) (p .1) in
+      record { formed = f .0; few = f .1; as-many = d .as-many; written = d .written }
 
-  room : termWords * length the-book ≤ termWords * office .maxTerms
-  room = omega (arith, formed .1)
+  -- and what is emitted of them is copied
+  pub copied : (out : List ℕ) {refusal written : ℕ} {out′ : List ℕ} → Writes (emit (bookBytes (bookOf rows terms)) [] out) refusal written out′
+      → Writes (callCopy office book out) refusal written out′
+  copied out w = writes (copy-parsed book out (d .none-refused)) (rw (← held-book decoded-held) w)
 
-  -- the rows can be encoded
-  pub decoded-encodable : T (encodable rows terms)
-  decoded-encodable =
-      rw (d .written, d .as-many) (rows-encodable (termWords * office .maxTerms) the-book (formed .0) room (omega (arith, formed .1)))
+-- WRITING. An area that is not sound
+pub written-seven : (area out : List ℕ) → sound office area ≡ false → Writes (callWrite office area out) 7 0 out
+unfolding callWrite guard refuse
+written-seven area out e = rw e (refl, (refl, refl))
 
-  -- they hold the book
-  decoded-book : bookOf rows terms ≡ the-book
-  decoded-book = rw (d .written, d .as-many) (rows-book (termWords * office .maxTerms) the-book (formed .0) room)
+module _ {area rows bindings lines entries list roots names : List ℕ}
+    (r : Read office area (held (headerOf area) rows bindings lines entries) list roots names) (terms : ℕ) (as-many : terms ≡ word area 1) where
+  -- the rows hold the book of the area
+  pub read-held : BookHeld rows terms (stateOf area office .book) (stateOf area office .bound)
+  unfolding bookRows
+  read-held =
+      record {
+        formed = read-facts r .formed;
+        few = read-facts r .few-terms;
+        as-many = as-many ∙ read-terms r;
+        written = read-rows r;
+      }
 
-  -- its bytes are few
-  pub decoded-few : length (bookBytes (bookOf rows terms)) ≤ maxGroups * (1 + termWords * office .maxTerms)
-  decoded-few = rw decoded-book (omega (arith, book-bytes (termWords * office .maxTerms) the-book (formed .0) room, room))
-
-  module _ (out : List ℕ) where
-    -- an output that is too short
-    pub copied-short : length out < length (bookBytes (bookOf rows terms)) → Copied book out 13 0 out
-    unfolding refuse
-    copied-short l =
-        copied book out (refuse 1 13 [] out) 0 (copy-thirteen book out (d .none-refused) (rw decoded-book at l)) refl
-
-    -- an output that the encoder has written to
-    pub copied-whole : length (bookBytes (bookOf rows terms)) ≤ length out → (count : ℕ) (out′ : List ℕ)
-        → count ≡ length (bookBytes (bookOf rows terms)) → out′ ≡ bookBytes (bookOf rows terms) ++ drop count out → Copied book out 0 count out′
-    unfolding accept over
-    copied-whole l count out′ e g =
-        let n : count ≡ length (bookBytes the-book) = rw decoded-book at e in
-        rw (g, n, decoded-book)
-        (copied book out _ (length (bookBytes the-book)) (copy-accepted book out (d .none-refused) (rw decoded-book at l)) refl)
+  -- and what is emitted of them is written
+  pub written-book : sound office area ≡ true → (out : List ℕ) {refusal written : ℕ} {out′ : List ℕ}
+      → Writes (emit (bookBytes (bookOf rows terms)) [] out) refusal written out′ → Writes (callWrite office area out) refusal written out′
+  unfolding callWrite guard
+  written-book e out w =
+      rw e (emit-anywhere (bookBytes (stateOf area office .book)) out area (rw (← held-book read-held) w))

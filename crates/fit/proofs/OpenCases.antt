@@ -118,17 +118,6 @@ module _ (book out : List ℕ) where
   unfolding callCopy copyParsed
   copy-refused n = ap (copyParsed out) (not-decoded book n)
 
-  copy-parsed : refusalOf (parseBook office book) ≡ 0 → callCopy office book out ≡ emit (bookBytes (decodedBook (parseBook office book))) [] out
+  pub copy-parsed : refusalOf (parseBook office book) ≡ 0 → callCopy office book out ≡ emit (bookBytes (decodedBook (parseBook office book))) [] out
   unfolding callCopy copyParsed
   copy-parsed z = ap (copyParsed out) (decoded book z .1)
-
-  pub copy-thirteen : refusalOf (parseBook office book) ≡ 0 → length out < length (bookBytes (decodedBook (parseBook office book)))
-      → callCopy office book out ≡ refuse 1 13 [] out
-  unfolding emit guard
-  copy-thirteen z h = copy-parsed z ∙ rw (lt-leb (length (bookBytes (decodedBook (parseBook office book)))) (length out) h)
-
-  pub copy-accepted : refusalOf (parseBook office book) ≡ 0 → length (bookBytes (decodedBook (parseBook office book))) ≤ length out
-      → callCopy office book out
-      ≡ accept (length (bookBytes (decodedBook (parseBook office book))) ∷ []) [] (over (bookBytes (decodedBook (parseBook office book))) out)
-  unfolding emit guard
-  copy-accepted z h = copy-parsed z ∙ rw (le-leb (length (bookBytes (decodedBook (parseBook office book)))) (length out) h)

@@ -6,12 +6,19 @@ ghost use Prim.Native.Nat.{_*_, _≤_};
 ghost use lib.ListN.{length};
 ghost use Rattle.model.specs.Limits.{office};
 ghost use Rattle.model.specs.Lists.{concatMap};
-ghost use Rattle.model.specs.Area.{wordSize, termWords, toBytes, areaLength};
-ghost use Rattle.model.specs.Call.{over, callOpen, callCopy};
+ghost use Rattle.model.specs.Area.{wordSize, termWords, entryRowWords, toBytes, areaLength};
+ghost use Rattle.model.specs.Call.{over, emit, callOpen, callCopy, callEntry, callWrite};
+ghost use Rattle.model.specs.BookBytes.{bookBytes};
+ghost use Rattle.layout.specs.Rows.{bookOf};
+ghost use Rattle.book.specs.Rows.{encodable};
+ghost use lib.Dec.{T};
 ghost use Rattle.theory.specs.Modest.{Modest};
 ghost use Rattle.layout.specs.Limits.{limitsOf};
 ghost use Rattle.fit.specs.Opened.{openedWords};
 ghost use Rattle.fit.specs.Offered.{neededLength};
+
+// The pairs that there is room for in the scratch of a call: one for each argument of a term.
+const PAIRS: usize = layout::MAX_ARITY * layout::OFFICE_TERMS;
 
 // The length in bytes that an area of this capacity needs, 0 for a capacity out of range.
 #[no_mangle]
@@ -91,11 +98,111 @@ pub extern "C" fn fit_copy_book(book: &[u8], out: &mut [u8], written: &mut u32) 
         return refusal;
     }
     let terms = decoded.terms as usize;
-    let length = book::encoded_length(&rows, terms);
-    if out.len() < length {
+    write_book(&rows, terms, out, written)
+}
+
+// Writes the book in the first `terms` rows: 13 where `out` is too short. `written` is the number of bytes written.
+fn write_book(rows: &[u32], terms: usize, out: &mut [u8], written: &mut u32) -> u32
+    requires { ⌜ T (encodable (now rows) terms) × (length (bookBytes (bookOf (now rows) terms)) ≤ 4294967295) ⌝ }
+    ensures refusal { λ r. ⌜ r ≡ emit (bookBytes (bookOf (now (rows .entry)) terms)) [] (now (out .entry)) .refusal ⌝ }
+    ensures written { λ r. ⌜ now (written .exit) ∷ [] ≡ emit (bookBytes (bookOf (now (rows .entry)) terms)) [] (now (out .entry)) .numbers ⌝ }
+    ensures output { λ r. ⌜ now (out .exit) ≡ emit (bookBytes (bookOf (now (rows .entry)) terms)) [] (now (out .entry)) .output ⌝ }
+{
+    *written = 0;
+    if out.len() < book::encoded_length(rows, terms) {
         return 13;
     }
-    let count = book::encode(&rows, terms, out);
+    let count = book::encode(rows, terms, out);
     *written = count as u32;
     0
+}
+
+// Reads an entry: 7 for an area that is not sound, 8 where there is no such entry. `fields` are left, right, kind, symbol, count,
+// the eight argument places and same-as, zeros on a refusal.
+#[no_mangle]
+pub extern "C" fn fit_entry(area: &[u8], i: u32, fields: &mut [u32; layout::ENTRY_WORDS]) -> u32
+    ensures refusal { λ r. ⌜ r ≡ callEntry office (now (area .entry)) i .refusal ⌝ }
+    ensures fields { λ r. ⌜ now (fields .exit) ≡ callEntry office (now (area .entry)) i .numbers ⌝ }
+{
+    *fields = [0u32; layout::ENTRY_WORDS];
+    let mut rows = [0u32; layout::TERM_WORDS * layout::OFFICE_TERMS];
+    let mut bindings = [0u32; layout::OFFICE_TERMS];
+    let mut lines = [0u32; layout::OFFICE_LINES];
+    let mut entries = [0u32; layout::ENTRY_WORDS * layout::OFFICE_CAPACITY];
+    let mut list = [0u32; layout::OFFICE_TERMS];
+    let mut work = [0u32; layout::OFFICE_TERMS];
+    let mut roots = [0u32; layout::OFFICE_TERMS];
+    let mut names = [0u32; layout::OFFICE_TERMS];
+    let mut lefts = [0u32; PAIRS];
+    let mut rights = [0u32; PAIRS];
+    let mut heads = [0u32; pairs::BUCKETS];
+    let mut next = [0u32; PAIRS];
+    if !state::read(
+        area,
+        layout::OFFICE,
+        &mut rows,
+        &mut bindings,
+        &mut lines,
+        &mut entries,
+        &mut list,
+        &mut work,
+        &mut roots,
+        &mut names,
+        &mut lefts,
+        &mut rights,
+        &mut heads,
+        &mut next,
+    ) {
+        return 7;
+    }
+    let h = area::load_header(area);
+    if h.entries <= i {
+        return 8;
+    }
+    let entry = area::entry_at(&entries, i as usize);
+    *fields = area::row_of(entry);
+    0
+}
+
+// Writes the book of an area: 7 for an area that is not sound, then 13 where `out` is too short. `written` is the number of bytes
+// written, 0 on a refusal.
+#[no_mangle]
+pub extern "C" fn fit_write(area: &[u8], out: &mut [u8], written: &mut u32) -> u32
+    ensures refusal { λ r. ⌜ r ≡ callWrite office (now (area .entry)) (now (out .entry)) .refusal ⌝ }
+    ensures written { λ r. ⌜ now (written .exit) ∷ [] ≡ callWrite office (now (area .entry)) (now (out .entry)) .numbers ⌝ }
+    ensures output { λ r. ⌜ now (out .exit) ≡ callWrite office (now (area .entry)) (now (out .entry)) .output ⌝ }
+{
+    *written = 0;
+    let mut rows = [0u32; layout::TERM_WORDS * layout::OFFICE_TERMS];
+    let mut bindings = [0u32; layout::OFFICE_TERMS];
+    let mut lines = [0u32; layout::OFFICE_LINES];
+    let mut entries = [0u32; layout::ENTRY_WORDS * layout::OFFICE_CAPACITY];
+    let mut list = [0u32; layout::OFFICE_TERMS];
+    let mut work = [0u32; layout::OFFICE_TERMS];
+    let mut roots = [0u32; layout::OFFICE_TERMS];
+    let mut names = [0u32; layout::OFFICE_TERMS];
+    let mut lefts = [0u32; PAIRS];
+    let mut rights = [0u32; PAIRS];
+    let mut heads = [0u32; pairs::BUCKETS];
+    let mut next = [0u32; PAIRS];
+    if !state::read(
+        area,
+        layout::OFFICE,
+        &mut rows,
+        &mut bindings,
+        &mut lines,
+        &mut entries,
+        &mut list,
+        &mut work,
+        &mut roots,
+        &mut names,
+        &mut lefts,
+        &mut rights,
+        &mut heads,
+        &mut next,
+    ) {
+        return 7;
+    }
+    let h = area::load_header(area);
+    write_book(&rows, h.terms as usize, out, written)
 }

@@ -12,12 +12,12 @@ use Rattle.model.specs.Lists.{all}
 use Rattle.model.specs.Term.{var, Book, acyclic}
 use Rattle.model.specs.Table.{holeAt}
 use Rattle.model.specs.Step.{State}
-use Rattle.model.specs.Area.{termWords, entryRowWords, nodeWords, entryWords, distinct, soundState}
+use Rattle.model.specs.Area.{termWords, entryRowWords, nodeWords, entryWords, distinct, termsOk, soundState}
 use Rattle.theory.proofs.Soundness.Facts.{SoundFacts}
 use Rattle.theory.proofs.Soundness.Test.{ranges, tests, sound-facts}
 use Rattle.theory.proofs.Lists.Conjunctions.{and₂}
 use Rattle.theory.proofs.Area.Layout.{wide-nodes, wide-entries}
-use Rattle.layout.specs.Rows.{Loaded, loadedState, nodeOf, bookOf, loadedEntry, tableOf, Sized}
+use Rattle.layout.specs.Rows.{Loaded, loadedState, nodeOf, bookOf, boundOf, loadedEntry, tableOf, Sized}
 use Rattle.layout.proofs.Rows.{length-bookOf, length-boundOf, length-tableOf, few-arguments, binding-words}
 use Rattle.sound.specs.Sound.{valuesOk, tableOk}
 use Rattle.sound.proofs.Facts.{RowFacts}
@@ -25,6 +25,19 @@ use Rattle.sound.proofs.Padded.{to-padded, from-padded, rows-padded, pa
 use Rattle.sound.proofs.State.{Fits}
 use Rattle.sound.proofs.StateTests.{node-tests, terms-tests, arity-tests, table-tests}
 use Rattle.sound.proofs.Parts.{Holds}
+
+-- rows in order hold terms that obey the rules of terms
+pub rows-rules : (w : Loaded) → RowFacts w → T (termsOk (bookOf (w .termRows) (w .terms)) (boundOf (w .bindingWords) (w .terms)))
+rows-rules w f =
+    let arity : _ = arity-tests (w .termRows) (w .terms) .0 (f .one-arity) in
+    terms-tests (w .termRows) (w .bindingWords) (w .terms) .1 (λ t l. (
+      node-tests (bookOf (w .termRows) (w .terms)) t (nodeOf (w .termRows) t) .1 (
+        f .term-row t l .in-range,
+        le-trans (few-arguments (w .termRows) t) (f .term-row t l .count),
+        arity t l,
+      ),
+      f .binding t l,
+    ))
 
 module _ (lim : Limits) (w : Loaded) (fits : Fits lim w) where
   -- rows in order are the words of the state in them
@@ -56,17 +69,9 @@ module _ (lim : Limits) (w : Loaded) (fits : Fits lim w) where
       let bound : length (s .bound) ≡ w .terms = length-boundOf (w .bindingWords) (w .terms) in
       let entries : length (s .entries) ≡ w .entries = length-tableOf (w .entryRows) (w .entries) in
       let table : _ = and₂ (all (valuesOk b (s .bound) (s .entries)) (s .entries)) (distinct (s .entries)) .0 right in
-      let arity : _ = arity-tests (w .termRows) (w .terms) .0 (f .one-arity) in
       tests lim s .1 (
         ranges lim s .1 (some, few, omega arith, omega arith, omega arith, rw length-take (omega arith)),
-        terms-tests (w .termRows) (w .bindingWords) (w .terms) .1 (λ t l. (
-          node-tests b t (nodeOf (w .termRows) t) .1 (
-            f .term-row t l .in-range,
-            le-trans (few-arguments (w .termRows) t) (f .term-row t l .count),
-            arity t l,
-          ),
-          f .binding t l,
-        )),
+        rows-rules w f,
         no-cycle,
         table-tests b (s .bound) (w .entryRows) (w .entries) .1
             (λ i l. rw terms (f .entry-row i l .left, f .entry-row i l .right), table .0),

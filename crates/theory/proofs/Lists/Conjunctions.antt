@@ -1,7 +1,10 @@
 -- Several tests at once: taken apart, and put together. Assumes nothing.
-use mathlib.Core.Bool.{Bool, _&&_}
+use mathlib.Core.Path.{_≡_, refl}
+use mathlib.Core.List.{List, [], _∷_}
+use mathlib.Core.Bool.{Bool, true, false, _&&_, and-false}
 use mathlib.Core.Logic.{_↔_}
 use lib.Dec.{T}
+use Rattle.model.specs.Lists.{all}
 use Rattle.theory.proofs.Lists.Laws.{and-left, and-right, and-both}
 
 -- two, three, four and six tests hold together exactly when each holds
@@ -26,3 +29,14 @@ and₆ a b c d e f = (
       let k : T a × T b × T c × T d = and₄ a b c d .0 (g .0) in (k .0, k .1, k .2, k .3, g .1, g .2),
   λ h. and₃ (a && b && c && d) e f .1 (and₄ a b c d .1 (h .0, h .1, h .2, h .3), h .4, h .5),
 )
+
+-- two tests of every element are the first of every one and the second of every one
+and-exchange : (a b c d : Bool) → (a && b && (c && d)) ≡ (a && c && (b && d))
+and-exchange false b c d = refl
+and-exchange true b false d = and-false b
+and-exchange true b true d = refl
+
+pub all-and : {A : Type 0} (p q : A → Bool) (xs : List A) → all (λ x. p x && q x) xs ≡ (all p xs && all q xs)
+unfolding all
+all-and p q [] = refl
+all-and p q (x ∷ xs) = rw (all-and p q xs) (and-exchange (p x) (q x) (all p xs) (all q xs))

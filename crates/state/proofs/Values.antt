@@ -1,0 +1,32 @@
+-- The values of the terms: the list, what each stands for, and its name. Assumes nothing.
+use mathlib.Core.Path.{_≡_, sym, _∙_}
+use mathlib.Core.List.{List, _++_, map}
+use mathlib.Core.Bool.{Bool, true}
+use Prim.Native.Nat.{ℕ}
+use lib.ListN.{take}
+use lib.Seq.{take-at}
+use Rattle.model.specs.Lists.{from}
+use Rattle.model.specs.Term.{deref, name, acyclic}
+use Rattle.theory.proofs.Lists.Laws.{true-T}
+use Rattle.theory.proofs.Lists.From.{length-map-from}
+use Rattle.layout.specs.Rows.{bookOf, boundOf, GoodTerms}
+use Rattle.order.specs.Order.{Ordered}
+use Rattle.values.specs.Reading.{Listed}
+use Rattle.state.specs.Ready.{Valued}
+
+-- the first n of what was written over them
+take-written : (f : ℕ → ℕ) (n : ℕ) (xs rest : List ℕ) → xs ≡ map f (from 0 n) ++ rest → take n xs ≡ map f (from 0 n)
+take-written f n xs rest e = rw e (take-at (map f (from 0 n)) rest n (length-map-from f 0 n))
+
+module _ {rows words list : List ℕ} {n : ℕ} where
+  -- where the walk found no value that contains itself
+  pub listed : GoodTerms rows words n → {r : Bool} → r ≡ acyclic (bookOf rows n) (boundOf words n)
+      → (r ≡ true → Ordered (bookOf rows n) (boundOf words n) (take n list)) → r ≡ true → Listed rows words list n
+  listed good e ordered h = record { good = good; no-cycle = true-T _ (sym e ∙ h); ordered = ordered h }
+
+  -- what the terms stand for, and their names
+  pub valued : Listed rows words list n → (roots names xs ys : List ℕ)
+      → roots ≡ map (deref (bookOf rows n) (boundOf words n) n) (from 0 n) ++ xs
+      → names ≡ map (name (bookOf rows n) (boundOf words n)) (from 0 n) ++ ys → Valued rows words list roots names n
+  valued l roots names xs ys r s =
+      record { listed = l; is-roots = take-written _ n roots xs r; is-names = take-written _ n names ys s }

@@ -1,0 +1,135 @@
+-- A whole area: its bytes, the room that its state takes, and what the tests of its loaded words say of it. Assumes nothing.
+use mathlib.Core.Path.{_≡_, refl, sym, ap, _∙_, subst}
+use mathlib.Core.List.{List, [], _∷_}
+use mathlib.Core.Bool.{Bool, true, _&&_}
+use Prim.Native.Nat.{ℕ, zero, suc, _+_, _*_, _≤_, _<_}
+use native.Mathlib.Omega.{arith}
+use lib.ListN.{length, getD}
+use lib.Dec.{T, ltb, lt→ltb}
+use Rattle.leb128.specs.Laws.{areBytes}
+use Rattle.model.specs.Limits.{Limits, maxArity}
+use Rattle.model.specs.Term.{acyclic}
+use Rattle.model.specs.Area.{termWords, entryRowWords, word, wordsAt, sound, stateOf}
+use Rattle.theory.specs.Modest.{Modest}
+use Rattle.theory.proofs.Lists.Laws.{T-true, true-T, and-both}
+use Rattle.theory.proofs.Lists.Conjunctions.{and₃}
+use Rattle.theory.proofs.Soundness.Test.{facts-sound}
+use Rattle.theory.proofs.Area.Bytes.{sound-carries}
+use Rattle.layout.specs.Rows.{Loaded, loadedState, Sized}
+use Rattle.area.specs.declared.Header.{Header}
+use Rattle.names.specs.Classes.{Scratch}
+use Rattle.names.proofs.Lowest.{scratch-kept}
+use Rattle.sound.specs.Sound.{loaded, headerOk, rowsOk, tableOk, soundLoaded}
+use Rattle.sound.proofs.Facts.{HeaderFacts}
+use Rattle.sound.proofs.Tests.{header-facts}
+use Rattle.sound.proofs.Words.{loaded-sized}
+use Rattle.sound.proofs.Theorems.{sound-by-parts, state-by-parts}
+use Rattle.entries.specs.Known as Known
+use Rattle.state.specs.Loading.{Sizes, Words, held, Used, HeaderOf}
+use Rattle.state.specs.Ready.{Valued, Room, Lent, Ready, Read}
+
+-- numbers that each fit a byte are bytes
+pub are-bytes : (xs : List ℕ) → ((i : ℕ) → getD xs i 0 < 256) → T (areBytes xs)
+unfolding areBytes
+are-bytes [] h = tt
+are-bytes (x ∷ xs) h = and-both (ltb x 256) (areBytes xs) (lt→ltb x 256 (h zero)) (are-bytes xs (λ i. h (suc i)))
+
+-- room for more terms, or for more entries, is room for fewer
+fewer-terms : {list work roots names lefts rights heads next : List ℕ} {n m : ℕ} → m ≤ n → Room list work roots names lefts rights heads next n
+    → Room list work roots names lefts rights heads next m
+fewer-terms l r =
+    record {
+      list-fits = omega (arith, r .list-fits);
+      roots-fit = omega (arith, r .roots-fit);
+      names-fit = omega (arith, r .names-fit);
+      scratch = record {
+        room = record {
+          lefts = omega (arith, r .scratch .room .lefts);
+          rights = omega (arith, r .scratch .room .rights);
+          links = omega (arith, r .scratch .room .links);
+        };
+        left-words = r .scratch .left-words;
+        all-heads = r .scratch .all-heads;
+        classes-fit = omega (arith, r .scratch .classes-fit);
+        words-fit = omega (arith, r .scratch .words-fit);
+      };
+    }
+
+fewer-entries : {lefts rights heads next : List ℕ} {n m : ℕ} → m ≤ n → Known.Room lefts rights heads next n → Known.Room lefts rights heads next m
+fewer-entries l r =
+    record {
+      lefts-fit = omega (arith, r .lefts-fit);
+      rights-fit = omega (arith, r .rights-fit);
+      next-fit = omega (arith, r .next-fit);
+      words = r .words;
+      all-heads = r .all-heads;
+    }
+
+-- what passes all tests passes those of the rows
+rows-tested : (w : Loaded) → T (soundLoaded w) → T (rowsOk w)
+unfolding soundLoaded
+rows-tested w t =
+    and₃ (rowsOk w) (acyclic (loadedState w .book) (loadedState w .bound)) (tableOk (loadedState w)) .0 t .0
+
+module _ (lim : Limits) (area : List ℕ) (ok : T (headerOk lim area)) (h : Header) (head : HeaderOf area h) where
+  -- the room that is lent is enough for the state of an area whose header is in order
+  module _ {list work roots names lefts rights heads next : List ℕ} (lent : Lent lim list work roots names lefts rights heads next) where
+    pub room-terms : Room list work roots names lefts rights heads next (h .terms)
+    room-terms = fewer-terms (rw (head .1) (header-facts lim area .0 ok .few-terms)) (lent .for-terms)
+
+    pub room-entries : Known.Room lefts rights heads next (h .entries)
+    room-entries =
+        let f = header-facts lim area .0 ok in
+        fewer-entries (rw (head .2) (omega (arith, f .few-entries, f .capacity-fits))) (lent .for-entries)
+
+  module _ {rows bindings lines entries : List ℕ} (words : Words (loaded lim area) rows bindings lines entries) where
+    -- the loaded state is that of the header and the slices
+    held-loaded : held h rows bindings lines entries ≡ loaded lim area
+    unfolding loaded
+    held-loaded = cc
+
+    -- its parts have their lengths
+    parts-sized : Sized lim (held h rows bindings lines entries)
+    parts-sized = rw held-loaded (loaded-sized lim area)
+
+    -- the rows and words that the header counts lie in the slices
+    pub used : Used (held h rows bindings lines entries)
+    used =
+        let f = header-facts lim area .0 ok in
+        let z = parts-sized in
+        record {
+          terms-fit = omega (arith, f .few-terms, head .1);
+          bindings-fit = omega (arith, f .few-terms, head .1);
+          lines-fit = omega (arith, f .few-lines, head .3);
+          entries-fit = omega (arith, f .few-entries, head .0, head .2);
+        }
+
+    module _ (m : Modest lim) (bytes : T (areBytes area)) {r : Bool} (e : r ≡ soundLoaded (held h rows bindings lines entries)) where
+      -- the tests of the loaded words decide whether the area is sound
+      pub decides : r ≡ sound lim area
+      decides = e ∙ ap soundLoaded held-loaded ∙ sym (rw (T-true (headerOk lim area) ok) at (sound-by-parts lim m area bytes))
+
+      -- and where it is, its state is loaded
+      pub area-read : {list roots names : List ℕ} → r ≡ true → Valued rows bindings list roots names (h .terms)
+          → Read lim area (held h rows bindings lines entries) list roots names
+      area-read t v =
+          let w : Loaded = held h rows bindings lines entries in
+          let z : Sized lim w = parts-sized in
+          let rows-ok : T (rowsOk w) = rows-tested w (true-T _ (sym e ∙ t)) in
+          let same : loadedState w ≡ stateOf area lim =
+          ap loadedState held-loaded ∙ sym (state-by-parts lim m area ok (rw held-loaded at rows-ok)) in
+          record {
+            is-state = same;
+            ready = record {
+              sizes = record {
+                rows-size = z .terms-long;
+                bindings-size = z .bindings-long;
+                lines-size = z .lines-long;
+                entries-size = z .entries-long;
+              };
+              used = used;
+              rows = rows-ok;
+              sound = rw same (facts-sound lim (stateOf area lim) (sound-carries lim area (true-T _ (sym decides ∙ t)) .0));
+              valued = v;
+            };
+          }

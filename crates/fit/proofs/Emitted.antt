@@ -26,6 +26,11 @@ Writes o refusal written out = (refusal ≡ o .refusal) × ((written ∷ [] ≡ 
 pub writes : {o o′ : Outcome} {refusal written : ℕ} {out : List ℕ} → o′ ≡ o → Writes o refusal written out → Writes o′ refusal written out
 writes e w = rw e w
 
+-- a refusal with the answer 0
+pub refuses : {n m refusal written : ℕ} {ns out out′ : List ℕ} → (refusal ≡ n) × (written ≡ 0)
+    → (n ≡ m) × ((0 ∷ [] ≡ ns) × (out ≡ out′)) → (refusal ≡ m) × ((written ∷ [] ≡ ns) × (out ≡ out′))
+refuses e w = rw (e .0, e .1) w
+
 module _ (new out : List ℕ) where
   -- an output that is too short
   pub emit-short : (area : List ℕ) → length out < length new → Writes (emit new area out) 13 0 out

@@ -82,6 +82,14 @@ fn write_opened(
     words::clear(area, layout::WORD_BYTES * area::bindings_at(lim), needed);
 }
 
+// A refusal of a call that answers one number, which is 0 then.
+fn refuse(n: u32, answer: &mut u32) -> u32
+    ensures { λ r. ⌜ (r ≡ n) × (now (answer .exit) ≡ 0) ⌝ }
+{
+    *answer = 0;
+    n
+}
+
 // Reads a book and writes it back, with no area: the book's refusals, then 13 where `out` is too short. `written` is the
 // number of bytes written, 0 on a refusal.
 #[no_mangle]
@@ -90,12 +98,11 @@ pub extern "C" fn fit_copy_book(book: &[u8], out: &mut [u8], written: &mut u32) 
     ensures written { λ r. ⌜ now (written .exit) ∷ [] ≡ callCopy office (now (book .entry)) (now (out .entry)) .numbers ⌝ }
     ensures output { λ r. ⌜ now (out .exit) ≡ callCopy office (now (book .entry)) (now (out .entry)) .output ⌝ }
 {
-    *written = 0;
     let mut rows = [0u32; layout::TERM_WORDS * layout::OFFICE_TERMS];
     let decoded = book::decode(book, layout::OFFICE, &mut rows);
     let refusal = decoded.refusal;
     if refusal != 0 {
-        return refusal;
+        return refuse(refusal, written);
     }
     let terms = decoded.terms as usize;
     write_book(&rows, terms, out, written)
@@ -108,9 +115,8 @@ fn write_book(rows: &[u32], terms: usize, out: &mut [u8], written: &mut u32) -> 
     ensures written { λ r. ⌜ now (written .exit) ∷ [] ≡ emit (bookBytes (bookOf (now (rows .entry)) terms)) [] (now (out .entry)) .numbers ⌝ }
     ensures output { λ r. ⌜ now (out .exit) ≡ emit (bookBytes (bookOf (now (rows .entry)) terms)) [] (now (out .entry)) .output ⌝ }
 {
-    *written = 0;
     if out.len() < book::encoded_length(rows, terms) {
-        return 13;
+        return refuse(13, written);
     }
     let count = book::encode(rows, terms, out);
     *written = count as u32;
@@ -172,7 +178,6 @@ pub extern "C" fn fit_write(area: &[u8], out: &mut [u8], written: &mut u32) -> u
     ensures written { λ r. ⌜ now (written .exit) ∷ [] ≡ callWrite office (now (area .entry)) (now (out .entry)) .numbers ⌝ }
     ensures output { λ r. ⌜ now (out .exit) ≡ callWrite office (now (area .entry)) (now (out .entry)) .output ⌝ }
 {
-    *written = 0;
     let mut rows = [0u32; layout::TERM_WORDS * layout::OFFICE_TERMS];
     let mut bindings = [0u32; layout::OFFICE_TERMS];
     let mut lines = [0u32; layout::OFFICE_LINES];
@@ -201,7 +206,7 @@ pub extern "C" fn fit_write(area: &[u8], out: &mut [u8], written: &mut u32) -> u
         &mut heads,
         &mut next,
     ) {
-        return 7;
+        return refuse(7, written);
     }
     let h = area::load_header(area);
     write_book(&rows, h.terms as usize, out, written)

@@ -3,7 +3,7 @@
 use mathlib.Core.Path.{sym, _∙_}
 use native.Mathlib.Omega.{arith}
 use borrow.Author.Needs.{needs}
-use Rattle.fit.proofs.Emitted.{held-encodable, held-few}
+use Rattle.fit.proofs.Emitted.{refuses, held-encodable, held-few}
 use Rattle.fit.proofs.Copied.{Decoded, copied-refused, decoded-held, copied}
 use Rattle.fit.proofs.fit_copy_book.Statement.{statement}
 use Rattle.fit.proofs.fit_copy_book.Tie as tie
@@ -19,7 +19,9 @@ rows-decoded c =
     }
 
 returns : tie.Need-returns
-returns c = copied-refused _ _ _ (c .before .before .decode .ensures .0) (c .if1 .taken)
+returns c =
+    let test = c .before .before in
+    refuses (c .refuse .ensures) (copied-refused _ _ _ (test .before .before .decode .ensures .0) (test .if1 .taken))
 
 write-book-requires : tie.Need-write-book-requires
 write-book-requires c κs =
@@ -33,6 +35,7 @@ fit-copy-book-spec =
     tie.close
     (tie.spec
     (λ c. search needs)
+    (λ c κs. search needs)
     (λ c κs. search needs)
     returns
     (λ c. search needs)

@@ -10,7 +10,7 @@ use Rattle.model.specs.Limits.{office}
 use Rattle.model.specs.Area.{sound}
 use Rattle.theory.proofs.Lists.Laws.{true-T}
 use Rattle.state.proofs.Uses.{sound-header}
-use Rattle.fit.proofs.Emitted.{held-encodable, held-few}
+use Rattle.fit.proofs.Emitted.{refuses, held-encodable, held-few}
 use Rattle.fit.proofs.Copied.{written-seven, read-held, written-book}
 use Rattle.fit.proofs.fit_write.Statement.{statement}
 use Rattle.fit.proofs.fit_write.Tie as tie
@@ -20,7 +20,9 @@ is-sound : (e : tie.Else1) → sound office (now (e .before .before .before .bef
 is-sound e = sym (e .before .before .before .before .before .before .before .before .before .before .before .before .before .read .ensures .0) ∙ not-false _ (e .if1 .left)
 
 returns : tie.Need-returns
-returns c = written-seven _ _ (sym (c .before .before .before .before .before .before .before .before .before .before .before .before .before .read .ensures .0) ∙ not-true _ (c .if1 .taken))
+returns c =
+    let test = c .before .before in
+    refuses (c .refuse .ensures) (written-seven _ _ (sym (test .before .before .before .before .before .before .before .before .before .before .before .before .before .read .ensures .0) ∙ not-true _ (test .if1 .taken)))
 
 load-header-requires : tie.Need-load-header-requires
 load-header-requires c κs = sound-header office _ (true-T _ (is-sound c))
@@ -53,6 +55,7 @@ fit-write-spec =
     (λ c. search needs)
     (λ c. search needs)
     (λ c. search needs)
+    (λ c κs. search needs)
     (λ c κs. search needs)
     returns
     load-header-requires

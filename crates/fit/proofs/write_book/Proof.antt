@@ -1,11 +1,13 @@
 -- `fit::write_book` meets its contract: an output that is too short, or one that the encoder has written to. Assumes nothing.
 use borrow.Author.Needs.{needs}
-use Rattle.fit.proofs.Emitted.{emit-short, emit-whole}
+use Rattle.fit.proofs.Emitted.{refuses, emit-short, emit-whole}
 use Rattle.fit.proofs.write_book.Statement.{statement}
 use Rattle.fit.proofs.write_book.Tie as tie
 
 returns : tie.Need-returns
-returns c = emit-short _ _ _ (rw (c .before .encoded-length .ensures) at (c .if1 .taken))
+returns c =
+    let short = c .before .before in
+    refuses (c .refuse .ensures) (emit-short _ _ _ (rw (short .before .encoded-length .ensures) at (short .if1 .taken)))
 
 returns-2 : tie.Need-returns-2
 returns-2 c =
@@ -17,6 +19,7 @@ pub write-book-spec : {M : Type 1} → statement M
 write-book-spec =
     tie.close
     (tie.spec
+    (λ c κs. search needs)
     (λ c κs. search needs)
     returns
     (λ c κs. search needs)

@@ -1,6 +1,6 @@
 /* Measures the stack that each call needs: the call runs on a stack of its own that was filled with a pattern, and what it
-   overwrote is counted. The area is the one with the deepest walk: each variable is bound to a term of eight arguments, of
-   which the last is the next variable. By hand: `tests/run stack`. */
+   overwrote is counted. The area is the one with the deepest walk: a variable is bound to the highest term, and each term has
+   eight arguments, of which the last is the term before it. By hand: `tests/run stack`. */
 #include "fit.h"
 #include <pthread.h>
 #include <stdio.h>
@@ -25,21 +25,17 @@ static void number(uint32_t n)
     book[book_length++] = (uint8_t)n;
 }
 
-/* Terms 0, 2, 4, .. are variables; term 1 is a constant; terms 3, 5, .. have seven times term 1 and the variable before them. */
+/* Term 0 is a variable, term 1 a constant; each other term has seven times term 1 and the term before it. */
 static void make_book(void)
 {
     number(TERMS);
-    for (uint32_t t = 0; t < TERMS; t++) {
-        if (t % 2 == 0) {
-            number(0);
-        } else if (t == 1) {
-            number(1), number(0);
-        } else {
-            number(2), number(8);
-            for (int a = 0; a < 7; a++)
-                number(1);
-            number(t - 1);
-        }
+    number(0);
+    number(1), number(0);
+    for (uint32_t t = 2; t < TERMS; t++) {
+        number(2), number(8);
+        for (int a = 0; a < 7; a++)
+            number(1);
+        number(t - 1);
     }
 }
 
@@ -49,11 +45,10 @@ static void put_word(size_t i, uint32_t w)
         area[4 * i + (size_t)k] = (uint8_t)(w >> (8 * k));
 }
 
-/* Variable t is bound to term t + 3 (docs/LAYOUT.md: the word of a binding is the term plus 1). */
-static void bind_all(void)
+/* The variable is bound to the highest term (docs/LAYOUT.md: the word of a binding is the term plus 1). */
+static void bind_variable(void)
 {
-    for (uint32_t t = 0; t + 3 < TERMS; t += 2)
-        put_word(10244 + t, t + 4);
+    put_word(10244, TERMS);
 }
 
 static void run_open(void) { refusal = fit_open(CAPACITY, book, book_length, area, area_length); }
@@ -105,7 +100,7 @@ int main(void)
     size_t base = used(run_nothing);
     measure("fit_open", run_open, base, 0);
     measure("fit_copy_book", run_copy, base, 0);
-    bind_all();
+    bind_variable();
     measure("fit_entry", run_entry, base, 8);
     measure("fit_write", run_write, base, 0);
     free(area);

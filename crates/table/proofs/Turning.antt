@@ -1,7 +1,7 @@
 -- Turning an entry in slices: its argument pairs are placed, and its row is put anew. Assumes nothing.
 use mathlib.Core.Path.{_≡_, refl, ap, sym, _∙_}
 use mathlib.Core.List.{List, [], _∷_, _++_}
-use mathlib.Core.Bool.{true, false, true≢false}
+use mathlib.Core.Bool.{Bool, true, false, true≢false}
 use Prim.Native.Nat.{ℕ, suc, _+_, _*_, _-_, _≤_, _<_}
 use native.Mathlib.Nat.{add-sub-cancel-left}
 use native.Mathlib.Omega.{arith}
@@ -23,8 +23,9 @@ use Rattle.entries.specs.Known.{Held}
 use Rattle.entries.proofs.Rows.{formed, term-row, row-end}
 use Rattle.entries.proofs.EntryKind.{left-applied, right-applied, arguments-known}
 use Rattle.table.specs.Stands.{HoldsTable, Stands, Reaches, GivenTable, Whatever}
-use Rattle.table.specs.Steps.{ToPlaceAll, ArePlaced, ToTurn, IsTurned}
+use Rattle.table.specs.Steps.{ToPlaceAll, ArePlaced, turnedRow, IsTurned}
 use Rattle.table.specs.declared.Arguments.{Arguments}
+use Rattle.table.specs.declared.Visited.{Visited}
 use Rattle.table.proofs.Held.{held-set}
 use Rattle.table.proofs.Names.{names-same}
 use Rattle.table.proofs.Placing.{stands-reaches}
@@ -51,6 +52,16 @@ module _ (e : Row) (x : Entry) (same : rowOf e ≡ entryWords x) (wide : length 
       sym (getD-at (e .arguments) (e .«same_as») [] 0 8 long) ∙ ap (λ (ws : List ℕ). getD ws 13 0) same ∙
       getD-at (kindWords (x .kind)) (x .sameAs) [] 0 11 kind
 
+-- the row stays where the argument pairs need entries beyond the capacity, and is put anew where they are placed
+module _ (rows entries : List ℕ) (i l : ℕ) (e : Row) (a : Arguments) where
+  pub turned-none : a .full ≡ true → IsTurned rows entries entries i l e a (record { turned = true; count = a .count; full = true })
+  turned-none f = record { answer = rw f; put = rw f }
+
+  pub turned-put : {entries′ : List ℕ} → a .full ≡ false
+      → entries′ ≡ paste entries (entryRowWords * i) (rowOf (turnedRow rows l e (a .entries))) entryRowWords
+      → IsTurned rows entries entries′ i l e a (record { turned = true; count = a .count; full = false })
+  turned-put f p = record { answer = rw f; put = rw f p }
+
 -- The words behind the count in the row of term t, as they are lent.
 abbrev pub lent : List ℕ → ℕ → List ℕ
 lent rows t = take (termWords * t + 2 + at rows (termWords * t + 1) - (termWords * t + 2)) (drop (termWords * t + 2) rows)
@@ -65,8 +76,18 @@ module _ (rows : List ℕ) (t : ℕ) (d : at rows (termWords * t) ≡ 0 → ⊥)
   unfolding symbol
   applied-symbol = rw (node-app rows t d)
 
+-- An entry whose sides stand for the terms l and r, which are alike, before its argument pairs are placed.
+pub record Turnable (rows names entries lefts rights heads next : List ℕ) (capacity m i : ℕ) (e : Row) (l r : ℕ) (b : Book) (β : Bindings) (es : Table) : Type 0 where
+  pub known : Held b β rows names [] 0
+  pub stands : Stands entries lefts rights heads next capacity m b β es
+  pub there : i < m
+  pub is-entry : rowOf e ≡ entryWords (entry es i)
+  pub left-term : l < length b
+  pub right-term : r < length b
+  pub are-alike : alike (nodeOf rows l) (nodeOf rows r) ≡ true
+
 module _ {rows names entries lefts rights heads next : List ℕ} {capacity m i : ℕ} {e : Row} {l r : ℕ} {b : Book} {β : Bindings} {es : Table}
-    (q : ToTurn rows names entries lefts rights heads next capacity m i e l r b β es) where
+    (q : Turnable rows names entries lefts rights heads next capacity m i e l r b β es) where
   abbrev n : Node
   n = nodeOf rows l
 
@@ -114,13 +135,9 @@ module _ {rows names entries lefts rights heads next : List ℕ} {capacity m i :
     done = rw (lent-arguments rows l left-app, lent-arguments rows r right-app) at placed
 
     -- they need entries beyond the capacity
-    pub turn-full : a .full ≡ true → IsTurned rows entries′ lefts′ rights′ heads′ next′ capacity i l r (record { turned = true; count = a .count; full = true }) b β es
-    turn-full f =
-        record {
-          reaches =
-              record { is-full = sym f ∙ done .reaches .is-full ∙ rw (turn-length b β es i n o); stands = λ x. absurd (true≢false x) };
-          turned = refl;
-        }
+    turn-full : (entries″ : List ℕ) → a .full ≡ true → Reaches entries″ lefts′ rights′ heads′ next′ capacity (a .count) (a .full) b β (turn b β es i (entry es i) n o)
+    turn-full entries″ f =
+        record { is-full = done .reaches .is-full ∙ rw (turn-length b β es i n o); stands = λ x. absurd (true≢false (sym f ∙ x)) }
 
     -- they are placed
     module _ (f : a .full ≡ false) where
@@ -129,18 +146,6 @@ module _ {rows names entries lefts rights heads next : List ℕ} {capacity m i :
 
       abbrev turnedEntry : Entry
       turnedEntry = record { left = entry es i .left; right = entry es i .right; kind = common (symbol n) args; sameAs = entry es i .sameAs }
-
-      abbrev turnedRow : Row
-      turnedRow =
-          record {
-            left = e .left;
-            right = e .right;
-            kind = 1;
-            symbol = at rows (termWords * l) - 1;
-            count = at rows (termWords * l + 1);
-            arguments = a .entries;
-            «same_as» = e .«same_as»;
-          }
 
       here : i < length es
       here = omega (arith, q .there, q .stands .count)
@@ -151,7 +156,7 @@ module _ {rows names entries lefts rights heads next : List ℕ} {capacity m i :
       args-length : length args ≡ length (arguments n)
       args-length = length-pairwise _ (arguments n) (arguments o) counts
 
-      turned-row : rowOf turnedRow ≡ entryWords turnedEntry
+      turned-row : rowOf (turnedRow rows l e (a .entries)) ≡ entryWords turnedEntry
       unfolding rowOf entryWords kindWords
       turned-row =
           let wide = q .stands .held .wide i here in
@@ -169,7 +174,7 @@ module _ {rows names entries lefts rights heads next : List ℕ} {capacity m i :
       unfolding kindArguments
       turned-wide = width-entry turnedEntry (omega (arith, args-length, few))
 
-      module _ {entries″ : List ℕ} (put : entries″ ≡ paste entries′ (entryRowWords * i) (rowOf turnedRow) entryRowWords)
+      module _ {entries″ : List ℕ} (put : entries″ ≡ paste entries′ (entryRowWords * i) (rowOf (turnedRow rows l e (a .entries))) entryRowWords)
           (size : length entries″ ≡ length entries′) where
         turn-stands : Stands entries″ lefts′ rights′ heads′ next′ capacity (a .count) b β (turn b β es i (entry es i) n o)
         unfolding turn
@@ -184,5 +189,11 @@ module _ {rows names entries lefts rights heads next : List ℕ} {capacity m i :
               names = names-same (s .names) _ (turn-grown b β es i n o here) (turn-length b β es i n o);
             }
 
-        pub turn-put : IsTurned rows entries″ lefts′ rights′ heads′ next′ capacity i l r (record { turned = true; count = a .count; full = false }) b β es
-        turn-put = record { reaches = stands-reaches turn-stands; turned = refl }
+    -- so turning leads to the turned table
+    module _ {v : Visited} {entries″ : List ℕ} (turned : IsTurned rows entries′ entries″ i l e a v) (size : length entries″ ≡ length entries′) where
+      reaches-at : (t : Bool) → a .full ≡ t → Reaches entries″ lefts′ rights′ heads′ next′ capacity (a .count) (a .full) b β (turn b β es i (entry es i) n o)
+      reaches-at true f = turn-full entries″ f
+      reaches-at false f = rw f (stands-reaches (turn-stands f (rw f at (turned .put)) size))
+
+      pub turn-reaches : Reaches entries″ lefts′ rights′ heads′ next′ capacity (a .count) (a .full) b β (turn b β es i (entry es i) n o)
+      turn-reaches = reaches-at (a .full) refl

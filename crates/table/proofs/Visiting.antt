@@ -3,24 +3,25 @@ use mathlib.Core.Path.{_≡_, refl, sym, _∙_}
 use mathlib.Core.List.{List, _++_}
 use mathlib.Core.Bool.{Bool, true, false, _&&_, and-false}
 use mathlib.Core.Logic.{inl, inr}
-use Prim.Native.Nat.{ℕ, _*_, _<_}
+use Prim.Native.Nat.{ℕ, _+_, _*_, _≤_, _<_}
 use native.Mathlib.Omega.{arith}
 use lib.ListN.{length, getD, take, drop}
 use Rattle.model.specs.Lists.{padded}
 use Rattle.model.specs.Term.{alike, Book, Bindings, root}
 use Rattle.model.specs.Table.{Kind, hole, common, isHole, Entry, Table, entry, turn, visit}
-use Rattle.model.specs.Area.{entryRowWords, entryWords, kindWords}
+use Rattle.model.specs.Area.{termWords, entryRowWords, entryWords, kindWords}
 use Rattle.theory.proofs.Table.Place.{visit-cases}
 use Rattle.theory.proofs.Table.WalkLength.{not-both, visit-idle}
 use Rattle.layout.specs.Rows.{at, nodeOf}
 use Rattle.area.specs.Row.{rowOf}
 use Rattle.area.specs.declared.Entry.{Entry as Row}
-use Rattle.entries.proofs.Rows.{root-lt, root-row}
-use Rattle.table.specs.Steps.{ToTurn, IsTurned, ToVisit, IsVisited}
+use Rattle.entries.proofs.Rows.{row-end, root-lt, root-row}
+use Rattle.table.specs.Stands.{Reaches}
+use Rattle.table.specs.Steps.{ToVisit, IsVisited}
 use Rattle.table.specs.declared.Visited.{Visited}
 use Rattle.table.proofs.Held.{held-row}
 use Rattle.table.proofs.Placing.{stands-reaches}
-use Rattle.table.proofs.Turning.{row-left, row-right, row-kind}
+use Rattle.table.proofs.Turning.{row-left, row-right, row-kind, Turnable}
 
 -- the word of a kind is 0 exactly for a hole
 kind-common : (k : Kind) (rest : List ℕ) → (getD (kindWords k ++ rest) 0 0 ≡ 0 → ⊥) → isHole k ≡ false
@@ -65,7 +66,13 @@ module _ {rows roots names entries lefts rights heads next : List ℕ} {capacity
   pub right-lt : e .right < length b
   right-lt = rw right-same (q .stands .names .right-term i here)
 
-  -- what they stand for
+  -- what they stand for has its arguments in its row
+  pub left-end : termWords * at roots (e .left) + 2 + at rows (termWords * at roots (e .left) + 1) ≤ length rows
+  left-end = row-end (q .known .held) _ (root-lt (q .known) left-lt)
+
+  pub right-end : termWords * at roots (e .right) + 2 + at rows (termWords * at roots (e .right) + 1) ≤ length rows
+  right-end = row-end (q .known .held) _ (root-lt (q .known) right-lt)
+
   left-root : root b β (entry es i .left) ≡ nodeOf rows (at roots (e .left))
   left-root = rw (← left-same) (root-row (q .known) left-lt)
 
@@ -92,8 +99,8 @@ module _ {rows roots names entries lefts rights heads next : List ℕ} {capacity
 
   -- it turns
   module _ (a : alike (nodeOf rows (at roots (e .left))) (nodeOf rows (at roots (e .right))) ≡ true) where
-    pub to-turn : ToTurn rows names entries lefts rights heads next capacity m i e (at roots (e .left)) (at roots (e .right)) b β es
-    to-turn =
+    pub turnable : Turnable rows names entries lefts rights heads next capacity m i e (at roots (e .left)) (at roots (e .right)) b β es
+    turnable =
         record {
           known = q .known .held;
           stands = q .stands;
@@ -104,13 +111,16 @@ module _ {rows roots names entries lefts rights heads next : List ℕ} {capacity
           are-alike = a;
         }
 
-    pub visit-turned : e .kind ≡ 0 → {v : Visited} {entries′ lefts′ rights′ heads′ next′ : List ℕ}
-        → IsTurned rows entries′ lefts′ rights′ heads′ next′ capacity i (at roots (e .left)) (at roots (e .right)) v b β es
+    pub visit-turned : e .kind ≡ 0 → {v : Visited} {count : ℕ} {full : Bool} {entries′ lefts′ rights′ heads′ next′ : List ℕ}
+        → v ≡ record { turned = true; count = count; full = full }
+        → Reaches entries′ lefts′ rights′ heads′ next′ capacity count full b β
+        (turn b β es i (entry es i) (nodeOf rows (at roots (e .left))) (nodeOf rows (at roots (e .right))))
         → IsVisited entries′ lefts′ rights′ heads′ next′ capacity i v b β es
     unfolding entryWords
-    visit-turned z t =
+    visit-turned z answer reaches =
         let h : isHole (entry es i .kind) ≡ true = kind-hole (entry es i .kind) _ (sym kind-word ∙ z) in
-        record {
-          reaches = rw (visit-turns b β es i h (rw (left-root, right-root) a), left-root, right-root) (t .reaches);
-          turned = t .turned ∙ rw (h, left-root, right-root) (sym a);
-        }
+        rw answer
+        (record {
+          reaches = rw (visit-turns b β es i h (rw (left-root, right-root) a), left-root, right-root) reaches;
+          turned = rw (h, left-root, right-root) (sym a);
+        })

@@ -1,19 +1,20 @@
 -- The steps of a table in slices: what each asks, and what its answer and the slices are after it. Assumes nothing: these are
 -- definitions.
 use mathlib.Core.Path.{_≡_}
-use mathlib.Core.List.{List, []}
-use mathlib.Core.Bool.{true, false, _&&_}
-use Prim.Native.Nat.{ℕ, _<_, _≤_}
+use mathlib.Core.List.{List}
+use mathlib.Core.Bool.{true, false, cond, _&&_}
+use Prim.Native.Nat.{ℕ, _+_, _*_, _-_, _<_, _≤_}
 use lib.ListN.{length}
+use lib.Seq.{paste}
 use Rattle.model.specs.Limits.{maxArity}
 use Rattle.model.specs.Lists.{pairwise, padded}
 use Rattle.model.specs.Term.{Book, Bindings, alike, root}
-use Rattle.model.specs.Table.{Table, isHole, entry, entryOf, place, placeAll, turn, visit}
-use Rattle.model.specs.Area.{entryWords}
-use Rattle.layout.specs.Rows.{nodeOf}
+use Rattle.model.specs.Table.{Table, isHole, entry, entryOf, place, placeAll, visit}
+use Rattle.model.specs.Area.{termWords, entryRowWords}
+use Rattle.layout.specs.Rows.{at}
 use Rattle.area.specs.Row.{rowOf}
 use Rattle.area.specs.declared.Entry.{Entry}
-use Rattle.entries.specs.Known.{Held, Terms}
+use Rattle.entries.specs.Known.{Terms}
 use Rattle.table.specs.Stands.{KnownNames, KnownTerms, Stands, Reaches}
 use Rattle.table.specs.declared.Placed.{Placed}
 use Rattle.table.specs.declared.Arguments.{Arguments}
@@ -44,19 +45,28 @@ pub record ArePlaced (entries lefts rights heads next : List ℕ) (capacity : �
   pub reaches : Reaches entries lefts rights heads next capacity (a .count) (a .full) b β (placeAll b β es ls rs)
   pub their-entries : a .full ≡ false → a .entries ≡ padded maxArity (pairwise (entryOf b β (placeAll b β es ls rs)) ls rs)
 
--- An entry whose sides stand for the terms l and r, which are alike, to be turned, and turned.
-pub record ToTurn (rows names entries lefts rights heads next : List ℕ) (capacity m i : ℕ) (e : Entry) (l r : ℕ) (b : Book) (β : Bindings) (es : Table) : Type 0 where
-  pub known : Held b β rows names [] 0
-  pub stands : Stands entries lefts rights heads next capacity m b β es
-  pub there : i < m
-  pub is-entry : rowOf e ≡ entryWords (entry es i)
-  pub left-term : l < length b
-  pub right-term : r < length b
-  pub are-alike : alike (nodeOf rows l) (nodeOf rows r) ≡ true
+-- A row as it is turned: common, with the symbol and the count of the term in row l, and the entries of its argument pairs.
+abbrev pub turnedRow : List ℕ → ℕ → Entry → List ℕ → Entry
+turnedRow rows l e args =
+    record {
+      left = e .left;
+      right = e .right;
+      kind = 1;
+      symbol = at rows (termWords * l) - 1;
+      count = at rows (termWords * l + 1);
+      arguments = args;
+      «same_as» = e .«same_as»;
+    }
 
-pub record IsTurned (rows entries lefts rights heads next : List ℕ) (capacity i l r : ℕ) (v : Visited) (b : Book) (β : Bindings) (es : Table) : Type 0 where
-  pub reaches : Reaches entries lefts rights heads next capacity (v .count) (v .full) b β (turn b β es i (entry es i) (nodeOf rows l) (nodeOf rows r))
-  pub turned : v .turned ≡ true
+-- Row i and the row of an application, the term l; and row i is put anew, where its argument pairs are placed.
+pub record ToTurn (rows entries : List ℕ) (i l : ℕ) : Type 0 where
+  pub applied : at rows (termWords * l) ≡ 0 → ⊥
+  pub term-row : termWords * l + 2 ≤ length rows
+  pub entry-row : entryRowWords * i + entryRowWords ≤ length entries
+
+pub record IsTurned (rows entries entries′ : List ℕ) (i l : ℕ) (e : Entry) (a : Arguments) (v : Visited) : Type 0 where
+  pub answer : v ≡ record { turned = true; count = a .count; full = a .full }
+  pub put : entries′ ≡ cond (a .full) entries (paste entries (entryRowWords * i) (rowOf (turnedRow rows l e (a .entries))) entryRowWords)
 
 -- An entry to be visited, and visited: whether it turned.
 pub record ToVisit (rows roots names entries lefts rights heads next : List ℕ) (capacity m i : ℕ) (b : Book) (β : Bindings) (es : Table) : Type 0 where

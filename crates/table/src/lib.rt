@@ -132,46 +132,11 @@ fn place_all(
     }
 }
 
-// Turns the entry `e` in row `i`, whose sides stand for the terms `l` and `r` of one symbol.
-fn turn(
-    rows: &[u32],
-    names: &[u32],
-    entries: &mut [u32],
-    capacity: usize,
-    m: usize,
-    i: usize,
-    l: usize,
-    r: usize,
-    e: Entry,
-    lefts: &mut [u32],
-    rights: &mut [u32],
-    heads: &mut [u32],
-    next: &mut [u32],
-) -> Visited
-    requires { ⌜ GivenTable (ToTurn (now rows) (now names) (now entries) (now lefts) (now rights) (now heads) (now next) capacity m i e l r) ⌝ }
-    ensures { λ v. ⌜ Whatever (ToTurn (now (rows .entry)) (now (names .entry)) (now (entries .entry)) (now (lefts .entry)) (now (rights .entry)) (now (heads .entry)) (now (next .entry)) capacity m i e l r)
-        (IsTurned (now (rows .entry)) (now (entries .exit)) (now (lefts .exit)) (now (rights .exit)) (now (heads .exit)) (now (next .exit)) capacity i l r v) ⌝ }
+// Turns the entry `e` in row `i`, where its argument pairs are placed: it takes the symbol and the count of the term `l`.
+fn turn(rows: &[u32], entries: &mut [u32], i: usize, l: usize, e: Entry, args: Arguments) -> Visited
+    requires { ⌜ ToTurn (now rows) (now entries) i l ⌝ }
+    ensures { λ v. ⌜ IsTurned (now (rows .entry)) (now (entries .entry)) (now (entries .exit)) i l e args v ⌝ }
 {
-    let left = TERM_WORDS * l;
-    let right = TERM_WORDS * r;
-    let symbol = rows[left] - 1;
-    let arity = rows[left + 1];
-    let ls = left + 2;
-    let rs = right + 2;
-    let ls_end = ls + arity as usize;
-    let rs_end = rs + rows[right + 1] as usize;
-    let args = place_all(
-        names,
-        entries,
-        capacity,
-        m,
-        &rows[ls..ls_end],
-        &rows[rs..rs_end],
-        lefts,
-        rights,
-        heads,
-        next,
-    );
     let count = args.count;
     if args.full {
         return Visited {
@@ -180,13 +145,14 @@ fn turn(
             full: true,
         };
     }
+    let row = TERM_WORDS * l;
     let numbers = args.entries;
     let common = Entry {
         left: e.left,
         right: e.right,
         kind: 1,
-        symbol,
-        count: arity,
+        symbol: rows[row] - 1,
+        count: rows[row + 1],
         arguments: numbers,
         same_as: e.same_as,
     };
@@ -235,19 +201,21 @@ pub fn visit(
             full: false,
         };
     }
-    turn(
-        rows,
+    let ls = TERM_WORDS * l + 2;
+    let rs = TERM_WORDS * r + 2;
+    let ls_end = ls + rows[TERM_WORDS * l + 1] as usize;
+    let rs_end = rs + rows[TERM_WORDS * r + 1] as usize;
+    let args = place_all(
         names,
         entries,
         capacity,
         m,
-        i,
-        l,
-        r,
-        e,
+        &rows[ls..ls_end],
+        &rows[rs..rs_end],
         lefts,
         rights,
         heads,
         next,
-    )
+    );
+    turn(rows, entries, i, l, e, args)
 }

@@ -5,7 +5,9 @@ use native.Mathlib.Omega.{arith}
 use borrow.Author.Needs.{needs}
 use borrow.Author.Tests.{not-true, not-false}
 use Rattle.entries.proofs.Rows.{root-lt}
-use Rattle.table.proofs.Visiting.{left-lt, right-lt, visit-common, visit-unlike, to-turn, visit-turned}
+use Rattle.table.proofs.Placing.{few-entries}
+use Rattle.table.proofs.Turning.{left-app, to-place-all, turn-reaches}
+use Rattle.table.proofs.Visiting.{left-lt, right-lt, left-end, right-end, visit-common, visit-unlike, turnable, visit-turned}
 use Rattle.table.proofs.visit.Statement.{statement}
 use Rattle.table.proofs.visit.Tie as tie
 
@@ -29,26 +31,102 @@ cast-r c = let q = c .before .before .before .before .before .before .before .be
 alike-requires : tie.Need-alike-requires
 alike-requires c κs =
     let q = c .before .before .before .before .before .before .before .before .before .before .before .before .before .before .before .before .pre .known in
-    let left = root-lt (q .known) (left-lt q _ (c .before .before .before .before .before .before .entry-at .ensures)) in
-    let right = root-lt (q .known) (right-lt q _ (c .before .before .before .before .before .before .entry-at .ensures)) in
-    let fit = q .known .held .rows-fit in
+    let left = left-end q _ (c .before .before .before .before .before .before .entry-at .ensures) in
+    let right = right-end q _ (c .before .before .before .before .before .before .entry-at .ensures) in
     (omega arith, omega arith)
 
 -- roots that are not alike
 returns-2 : tie.Need-returns-2
 returns-2 c b β es q = visit-unlike q _ (c .before .before .before .before .before .before .before .before .entry-at .ensures) (sym (c .before .alike .ensures) ∙ not-true _ (c .if2 .taken))
 
+-- the arguments of both terms lie in the rows
+mul-ls : tie.Need-mul-ls
+mul-ls c = let start = c .before .before .before .before .before .before .before .before .before .before .before .before .before .before .before .before .before .before in omega (arith, left-end (start .pre .known) _ (c .before .before .before .before .before .before .before .before .entry-at .ensures), start .good .0)
+
+add-ls : tie.Need-add-ls
+add-ls c = let start = c .before .before .before .before .before .before .before .before .before .before .before .before .before .before .before .before .before .before in omega (arith, left-end (start .pre .known) _ (c .before .before .before .before .before .before .before .before .entry-at .ensures), start .good .0)
+
+mul-ls-end : tie.Need-mul-ls-end
+mul-ls-end c = let start = c .before .before .before .before .before .before .before .before .before .before .before .before .before .before .before .before .before .before in omega (arith, left-end (start .pre .known) _ (c .before .before .before .before .before .before .before .before .entry-at .ensures), start .good .0)
+
+add-ls-end : tie.Need-add-ls-end
+add-ls-end c = let start = c .before .before .before .before .before .before .before .before .before .before .before .before .before .before .before .before .before .before in omega (arith, left-end (start .pre .known) _ (c .before .before .before .before .before .before .before .before .entry-at .ensures), start .good .0)
+
+mul-ls-end-2 : tie.Need-mul-ls-end-2
+mul-ls-end-2 c = let start = c .before .before .before .before .before .before .before .before .before .before .before .before .before .before .before .before .before .before in omega (arith, left-end (start .pre .known) _ (c .before .before .before .before .before .before .before .before .entry-at .ensures), start .good .0)
+
+mul-rs : tie.Need-mul-rs
+mul-rs c = let start = c .before .before .before .before .before .before .before .before .before .before .before .before .before .before .before .before .before .before in omega (arith, right-end (start .pre .known) _ (c .before .before .before .before .before .before .before .before .entry-at .ensures), start .good .0)
+
+add-rs : tie.Need-add-rs
+add-rs c = let start = c .before .before .before .before .before .before .before .before .before .before .before .before .before .before .before .before .before .before in omega (arith, right-end (start .pre .known) _ (c .before .before .before .before .before .before .before .before .entry-at .ensures), start .good .0)
+
+shared-slice-read-ls-end : tie.Need-shared-slice-read-ls-end
+shared-slice-read-ls-end c = let start = c .before .before .before .before .before .before .before .before .before .before .before .before .before .before .before .before .before .before .before in omega (arith, left-end (start .pre .known) _ (c .before .before .before .before .before .before .before .before .before .entry-at .ensures), start .good .0)
+
+cast-ls-end : tie.Need-cast-ls-end
+cast-ls-end c = let start = c .before .before .before .before .before .before .before .before .before .before .before .before .before .before .before .before .before .before .before in omega (arith, left-end (start .pre .known) _ (c .before .before .before .before .before .before .before .before .before .entry-at .ensures), start .good .0)
+
+add-ls-end-2 : tie.Need-add-ls-end-2
+add-ls-end-2 c = let start = c .before .before .before .before .before .before .before .before .before .before .before .before .before .before .before .before .before .before .before in omega (arith, left-end (start .pre .known) _ (c .before .before .before .before .before .before .before .before .before .entry-at .ensures), start .good .0)
+
+mul-rs-end : tie.Need-mul-rs-end
+mul-rs-end c = let start = c .before .before .before .before .before .before .before .before .before .before .before .before .before .before .before .before .before .before .before in omega (arith, right-end (start .pre .known) _ (c .before .before .before .before .before .before .before .before .before .entry-at .ensures), start .good .0)
+
+add-rs-end : tie.Need-add-rs-end
+add-rs-end c = let start = c .before .before .before .before .before .before .before .before .before .before .before .before .before .before .before .before .before .before .before in omega (arith, right-end (start .pre .known) _ (c .before .before .before .before .before .before .before .before .before .entry-at .ensures), start .good .0)
+
+mul-rs-end-2 : tie.Need-mul-rs-end-2
+mul-rs-end-2 c = let start = c .before .before .before .before .before .before .before .before .before .before .before .before .before .before .before .before .before .before .before in omega (arith, right-end (start .pre .known) _ (c .before .before .before .before .before .before .before .before .before .entry-at .ensures), start .good .0)
+
+shared-slice-read-rs-end : tie.Need-shared-slice-read-rs-end
+shared-slice-read-rs-end c = let start = c .before .before .before .before .before .before .before .before .before .before .before .before .before .before .before .before .before .before .before .before in omega (arith, right-end (start .pre .known) _ (c .before .before .before .before .before .before .before .before .before .before .entry-at .ensures), start .good .0)
+
+cast-rs-end : tie.Need-cast-rs-end
+cast-rs-end c = let start = c .before .before .before .before .before .before .before .before .before .before .before .before .before .before .before .before .before .before .before .before in omega (arith, right-end (start .pre .known) _ (c .before .before .before .before .before .before .before .before .before .before .entry-at .ensures), start .good .0)
+
+add-rs-end-2 : tie.Need-add-rs-end-2
+add-rs-end-2 c = let start = c .before .before .before .before .before .before .before .before .before .before .before .before .before .before .before .before .before .before .before .before in omega (arith, right-end (start .pre .known) _ (c .before .before .before .before .before .before .before .before .before .before .entry-at .ensures), start .good .0)
+
+mul-place-all : tie.Need-mul-place-all
+mul-place-all c = let start = c .before .before .before .before .before .before .before .before .before .before .before .before .before .before .before .before .before .before .before .before .before in omega (arith, left-end (start .pre .known) _ (c .before .before .before .before .before .before .before .before .before .before .before .entry-at .ensures), start .good .0)
+
+part-place-all-end : tie.Need-part-place-all-end
+part-place-all-end c = let start = c .before .before .before .before .before .before .before .before .before .before .before .before .before .before .before .before .before .before .before .before .before in omega (arith, left-end (start .pre .known) _ (c .before .before .before .before .before .before .before .before .before .before .before .entry-at .ensures), start .good .0)
+
+mul-place-all-2 : tie.Need-mul-place-all-2
+mul-place-all-2 c = let start = c .before .before .before .before .before .before .before .before .before .before .before .before .before .before .before .before .before .before .before .before .before .before in omega (arith, right-end (start .pre .known) _ (c .before .before .before .before .before .before .before .before .before .before .before .before .entry-at .ensures), start .good .0)
+
+part-place-all-end-2 : tie.Need-part-place-all-end-2
+part-place-all-end-2 c = let start = c .before .before .before .before .before .before .before .before .before .before .before .before .before .before .before .before .before .before .before .before .before .before in omega (arith, right-end (start .pre .known) _ (c .before .before .before .before .before .before .before .before .before .before .before .before .entry-at .ensures), start .good .0)
+
 -- roots that are alike
+place-all-requires : tie.Need-place-all-requires
+place-all-requires c κs =
+    let g = c .before .before .before .before .before .before .before .before .before .before .before .before .before .before .before .before .before .before .before .before .before .before .before .before .before .before .before .pre in
+    let same = sym (c .before .before .before .before .before .before .before .before .before .before .alike .ensures) ∙ not-false _ (c .before .before .before .before .before .before .before .before .before .if2 .left) in
+    record { book = g .book; bound = g .bound; table = g .table; known = to-place-all (turnable (g .known) _ (c .before .before .before .before .before .before .before .before .before .before .before .before .before .before .before .before .before .entry-at .ensures) same) }
+
 turn-requires : tie.Need-turn-requires
 turn-requires c κs =
-    let g = c .before .before .before .before .before .before .before .before .before .before .before .before .before .before .before .before .before .before .before .before .before .before .before .pre in
-    record { book = g .book; bound = g .bound; table = g .table; known = to-turn (g .known) _ (c .before .before .before .before .before .before .before .before .before .before .before .before .before .entry-at .ensures) (sym (c .before .before .before .before .before .before .alike .ensures) ∙ not-false _ (c .before .before .before .before .before .if2 .left)) }
+    let q = c .before .before .before .before .before .before .before .before .before .before .before .before .before .before .before .before .before .before .before .before .before .before .before .before .before .before .before .before .before .before .before .before .before .before .before .before .before .before .before .pre .known in
+    let read = c .before .before .before .before .before .before .before .before .before .before .before .before .before .before .before .before .before .before .before .before .before .before .before .before .before .before .before .before .before .entry-at .ensures in
+    record {
+      applied = left-app (turnable q _ read (sym (c .before .before .before .before .before .before .before .before .before .before .before .before .before .before .before .before .before .before .before .before .before .before .alike .ensures) ∙ not-false _ (c .before .before .before .before .before .before .before .before .before .before .before .before .before .before .before .before .before .before .before .before .before .if2 .left)));
+      term-row = omega (arith, left-end q _ read);
+      entry-row = omega (arith, q .there, few-entries (q .stands), q .stands .long, c .before .before .before .before .before .before .before .before .before .before .before .place-all .kept .1 .0);
+    }
+
+same-length-3 : tie.Need-same-length-3
+same-length-3 c = omega (arith, c .before .before .turn .kept .1 .0, c .before .before .before .before .before .before .before .before .before .before .before .before .before .before .place-all .kept .1 .0)
 
 returns-3 : tie.Need-returns-3
 returns-3 c b β es q =
-    let read = c .before .before .before .before .before .before .before .before .before .before .before .before .before .before .before .before .before .before .before .before .before .before .before .before .entry-at .ensures in
-    let same = sym (c .before .before .before .before .before .before .before .before .before .before .before .before .before .before .before .before .before .alike .ensures) ∙ not-false _ (c .before .before .before .before .before .before .before .before .before .before .before .before .before .before .before .before .if2 .left) in
-    visit-turned q _ read same (c .before .before .before .before .before .before .before .before .before .before .before .before .before .before .before .before .before .before .before .before .before .before .if1 .left) (c .before .before .before .before .before .before .before .before .before .before .turn .ensures b β es (to-turn q _ read same))
+    let read = c .before .before .before .before .before .before .before .before .before .before .before .before .before .before .before .before .before .before .before .before .before .before .before .before .before .before .before .before .before .before .before .before .entry-at .ensures in
+    let same = sym (c .before .before .before .before .before .before .before .before .before .before .before .before .before .before .before .before .before .before .before .before .before .before .before .before .before .alike .ensures) ∙ not-false _ (c .before .before .before .before .before .before .before .before .before .before .before .before .before .before .before .before .before .before .before .before .before .before .before .before .if2 .left) in
+    let ready = turnable q _ read same in
+    visit-turned q _ read same (c .before .before .before .before .before .before .before .before .before .before .before .before .before .before .before .before .before .before .before .before .before .before .before .before .before .before .before .before .before .before .if1 .left) (c .before .before .turn .ensures .answer)
+    (turn-reaches ready (c .before .before .before .before .before .before .before .before .before .before .before .before .before .before .place-all .ensures b β es (to-place-all ready)) (c .before .before .turn .ensures) (c .before .before .turn .kept .1 .0))
 
 pub visit-spec : {M : Type 1} → statement M
 visit-spec =
@@ -68,8 +146,33 @@ visit-spec =
     alike-requires
     (λ c. search needs)
     returns-2
-    turn-requires
+    mul-ls
+    add-ls
+    mul-rs
+    add-rs
+    mul-ls-end
+    add-ls-end
+    mul-ls-end-2
+    shared-slice-read-ls-end
+    cast-ls-end
+    add-ls-end-2
+    mul-rs-end
+    add-rs-end
+    mul-rs-end-2
+    shared-slice-read-rs-end
+    cast-rs-end
+    add-rs-end-2
+    mul-place-all
     (λ c. search needs)
+    (λ c. search needs)
+    part-place-all-end
+    mul-place-all-2
+    (λ c. search needs)
+    (λ c. search needs)
+    part-place-all-end-2
+    place-all-requires
+    turn-requires
+    same-length-3
     (λ c. search needs)
     (λ c. search needs)
     (λ c. search needs)

@@ -8,6 +8,7 @@ use native.Mathlib.Omega.{arith}
 use lib.ListN.{length, set}
 use Rattle.model.specs.Table.{isHole, Entry, Table, entry}
 use Rattle.model.specs.Step.{turned}
+use Rattle.saturate.specs.declared.Walked.{Walked}
 
 -- a test does not differ from itself
 not-itself : (t : Bool) → _≡_ {A = ℕ} (cond (t && not t) 1 0) 0
@@ -41,16 +42,20 @@ turned-set (o ∷ old) (x ∷ new) (suc i) e p q h g k =
     let rest = turned-set old new i e (le-of-suc-le-suc p) (le-of-suc-le-suc q) h g k in
     rw rest (omega arith)
 
--- a count that two tests raise by one
-module _ (x y : Bool) (t : ℕ) {t′ : ℕ} where
-  pub counted-one : x ≡ true → y ≡ true → t′ ≡ t + 1 → t′ ≡ t + cond (x && y) 1 0
-  counted-one p q e = rw (p, q) e
+-- An answer whose count of turned entries two tests raise by one.
+pub record Counted (w w′ : Walked) (x y : Bool) : Type 0 where
+  pub raised : w′ .turned ≡ w .turned + cond (x && y) 1 0
+  pub same-full : w′ .full ≡ w .full
 
-  pub not-first : x ≡ false → t′ ≡ t → t′ ≡ t + cond (x && y) 1 0
-  not-first p e = rw p (omega arith)
+module _ {w w′ : Walked} (x y : Bool) where
+  pub counted : x ≡ true → y ≡ true → w′ ≡ record { turned = w .turned + 1; count = w .count; full = w .full } → Counted w w′ x y
+  counted p q e = rw (e, p, q) (record { raised = refl; same-full = refl })
 
-  pub not-second : y ≡ false → t′ ≡ t → t′ ≡ t + cond (x && y) 1 0
-  not-second p e = rw (p, and-false) (omega arith)
+  pub not-first : x ≡ false → w′ ≡ w → Counted w w′ x y
+  not-first p e = rw (e, p) (record { raised = omega arith; same-full = refl })
+
+  pub not-second : y ≡ false → w′ ≡ w → Counted w w′ x y
+  not-second p e = rw (e, p) (record { raised = rw and-false (omega arith); same-full = refl })
 
 pub at-most-one : (x : Bool) → cond x 1 0 ≤ 1
 at-most-one true = omega arith

@@ -22,7 +22,8 @@ use Rattle.table.specs.declared.Visited.{Visited}
 use Rattle.table.proofs.Placing.{few-entries, stands-reaches}
 use Rattle.table.proofs.Sizes.{SameSizes, same-sizes, sizes-trans}
 use Rattle.saturate.specs.Steps.{ToWalk, IsWalked}
-use Rattle.saturate.proofs.Turned.{turned-none, turned-alike, turned-set, at-most-one}
+use Rattle.saturate.specs.declared.Walked.{Walked as Answer}
+use Rattle.saturate.proofs.Turned.{turned-none, turned-alike, turned-set, Counted, at-most-one}
 
 module _ (b : Book) (β : Bindings) where
   -- a visit leaves the other entries
@@ -85,42 +86,44 @@ pub record WalkedTo (entries lefts rights heads next : List ℕ) (capacity t cou
 
 -- What holds at the loop's head.
 pub record Walking (rows roots names entries₀ lefts₀ rights₀ heads₀ next₀ : List ℕ) (capacity m : ℕ)
-    (entries lefts rights heads next : List ℕ) (t count i : ℕ) : Type 0 where
+    (entries lefts rights heads next : List ℕ) (w : Answer) (i : ℕ) : Type 0 where
   pub sizes : SameSizes entries₀ lefts₀ rights₀ heads₀ next₀ entries lefts rights heads next
-  pub few : t ≤ i
+  pub few : w .turned ≤ i
+  pub not-full : w .full ≡ false
   pub so-far : Whatever (ToWalk rows roots names entries₀ lefts₀ rights₀ heads₀ next₀ capacity m)
-      (WalkedTo entries lefts rights heads next capacity t count i)
+      (WalkedTo entries lefts rights heads next capacity (w .turned) (w .count) i)
 
 pub walking-none : (rows roots names entries lefts rights heads next : List ℕ) (capacity m : ℕ)
-    → Walking rows roots names entries lefts rights heads next capacity m entries lefts rights heads next 0 m 0
+    → Walking rows roots names entries lefts rights heads next capacity m entries lefts rights heads next (record { turned = 0; count = m; full = false }) 0
 unfolding walk
 walking-none rows roots names entries lefts rights heads next capacity m =
     record {
       sizes = same-sizes entries lefts rights heads next;
       few = omega arith;
+      not-full = refl;
       so-far = λ b β es q.
           record { stands = q .stands; within = omega arith; ahead = λ j l k. refl; old-turned = sym (turned-none es) };
     }
 
-module _ {rows roots names entries₀ lefts₀ rights₀ heads₀ next₀ : List ℕ} {capacity m : ℕ} {entries lefts rights heads next : List ℕ} {t count i : ℕ}
-    (h : Walking rows roots names entries₀ lefts₀ rights₀ heads₀ next₀ capacity m entries lefts rights heads next t count i) where
+module _ {rows roots names entries₀ lefts₀ rights₀ heads₀ next₀ : List ℕ} {capacity m : ℕ} {entries lefts rights heads next : List ℕ} {w : Answer} {i : ℕ}
+    (h : Walking rows roots names entries₀ lefts₀ rights₀ heads₀ next₀ capacity m entries lefts rights heads next w i) where
   -- the table is within the capacity
-  pub count-few : GivenTable (ToWalk rows roots names entries₀ lefts₀ rights₀ heads₀ next₀ capacity m) → count ≤ capacity
+  pub count-few : GivenTable (ToWalk rows roots names entries₀ lefts₀ rights₀ heads₀ next₀ capacity m) → w .count ≤ capacity
   count-few g = few-entries (h .so-far _ _ _ (g .known) .stands)
 
-  module _ (l : i < count) where
+  module _ (l : i < w .count) where
     -- what the next visit asks
     to-visit : (b : Book) (β : Bindings) (es : Table) → ToWalk rows roots names entries₀ lefts₀ rights₀ heads₀ next₀ capacity m b β es
-        → ToVisit rows roots names entries lefts rights heads next capacity count i b β (walk b β i 0 es)
+        → ToVisit rows roots names entries lefts rights heads next capacity (w .count) i b β (walk b β i 0 es)
     to-visit b β es q = record { known = q .known; stands = h .so-far b β es q .stands; there = l }
 
     pub next-given : GivenTable (ToWalk rows roots names entries₀ lefts₀ rights₀ heads₀ next₀ capacity m)
-        → GivenTable (ToVisit rows roots names entries lefts rights heads next capacity count i)
+        → GivenTable (ToVisit rows roots names entries lefts rights heads next capacity (w .count) i)
     next-given g =
         record { book = g .book; bound = g .bound; table = walk (g .book) (g .bound) i 0 (g .table); known = to-visit _ _ _ (g .known) }
 
     module _ {v : Visited} {entries′ lefts′ rights′ heads′ next′ : List ℕ}
-        (visited : Whatever (ToVisit rows roots names entries lefts rights heads next capacity count i)
+        (visited : Whatever (ToVisit rows roots names entries lefts rights heads next capacity (w .count) i)
         (IsVisited entries′ lefts′ rights′ heads′ next′ capacity i v)) where
       -- the walk one visit further
       further : (b : Book) (β : Bindings) (es : Table) → ToWalk rows roots names entries₀ lefts₀ rights₀ heads₀ next₀ capacity m b β es
@@ -129,7 +132,7 @@ module _ {rows roots names entries₀ lefts₀ rights₀ heads₀ next₀ : List
 
       -- it needs entries beyond the capacity
       pub walking-full : v .full ≡ true → Whatever (ToWalk rows roots names entries₀ lefts₀ rights₀ heads₀ next₀ capacity m)
-          (IsWalked entries′ lefts′ rights′ heads′ next′ capacity (record { turned = t; count = count; full = true }))
+          (IsWalked entries′ lefts′ rights′ heads′ next′ capacity (record { turned = w .turned; count = w .count; full = true }))
       walking-full f b β es q =
           let beyond = ltb-true capacity _ (sym (visited b β _ (to-visit b β es q) .reaches .is-full) ∙ f) in
           let steps : i + 1 ≤ suc capacity = omega (arith, few-entries (h .so-far b β es q .stands)) in
@@ -140,9 +143,9 @@ module _ {rows roots names entries₀ lefts₀ rights₀ heads₀ next₀ : List
           }
 
       -- it is made
-      module _ (f : v .full ≡ false) {t′ : ℕ} (counted : t′ ≡ t + cond (v .turned && ltb i m) 1 0) where
+      module _ (f : v .full ≡ false) {w′ : Answer} (c : Counted w w′ (v .turned) (ltb i m)) where
         walked-to : (b : Book) (β : Bindings) (es : Table) → ToWalk rows roots names entries₀ lefts₀ rights₀ heads₀ next₀ capacity m b β es
-            → WalkedTo entries′ lefts′ rights′ heads′ next′ capacity t′ (v .count) (i + 1) b β es
+            → WalkedTo entries′ lefts′ rights′ heads′ next′ capacity (w′ .turned) (v .count) (i + 1) b β es
         walked-to b β es q =
             let so = h .so-far b β es q in
             let done = visited b β _ (to-visit b β es q) in
@@ -157,19 +160,25 @@ module _ {rows roots names entries₀ lefts₀ rights₀ heads₀ next₀ : List
               ahead = λ j p k. rw more (visit-other b β (walk b β i 0 es) i j (omega arith) (λ e. omega arith) ∙ so .ahead j (omega arith) k);
               old-turned =
                   rw more
-                  (counted ∙ rw (so .old-turned, done .turned, q .stands .count)
+                  (c .raised ∙ rw (so .old-turned, done .turned, q .stands .count)
                   (sym (turned-visit b β es (walk b β i 0 es) i old here (λ k. sym (so .ahead i (omega arith) k)))));
             }
 
         pub walking-more : SameSizes entries lefts rights heads next entries′ lefts′ rights′ heads′ next′
-            → Walking rows roots names entries₀ lefts₀ rights₀ heads₀ next₀ capacity m entries′ lefts′ rights′ heads′ next′ t′ (v .count) (i + 1)
+            → Walking rows roots names entries₀ lefts₀ rights₀ heads₀ next₀ capacity m entries′ lefts′ rights′ heads′ next′
+            (record { turned = w′ .turned; count = v .count; full = w′ .full }) (i + 1)
         walking-more sizes =
-            record { sizes = sizes-trans (h .sizes) sizes; few = omega (arith, h .few, at-most-one (v .turned && ltb i m)); so-far = walked-to }
+            record {
+              sizes = sizes-trans (h .sizes) sizes;
+              few = omega (arith, c .raised, h .few, at-most-one (v .turned && ltb i m));
+              not-full = c .same-full ∙ h .not-full;
+              so-far = walked-to;
+            }
 
   -- it has reached the end
-  pub walking-all : count ≤ i → Whatever (ToWalk rows roots names entries₀ lefts₀ rights₀ heads₀ next₀ capacity m)
-      (IsWalked entries lefts rights heads next capacity (record { turned = t; count = count; full = false }))
+  pub walking-all : w .count ≤ i → Whatever (ToWalk rows roots names entries₀ lefts₀ rights₀ heads₀ next₀ capacity m)
+      (IsWalked entries lefts rights heads next capacity w)
   walking-all end b β es q =
       let so = h .so-far b β es q in
       let ended = walk-end b β es i capacity (omega (arith, few-entries (so .stands), so .within)) (omega (arith, so .stands .count)) in
-      record { reaches = rw ended (stands-reaches (so .stands)); old-turned = λ x. rw ended (so .old-turned) }
+      record { reaches = rw (ended, h .not-full) (stands-reaches (so .stands)); old-turned = λ x. rw ended (so .old-turned) }

@@ -54,17 +54,20 @@ pub fn walk(
     ensures { λ w. ⌜ Whatever (ToWalk (now (rows .entry)) (now (roots .entry)) (now (names .entry)) (now (entries .entry)) (now (lefts .entry)) (now (rights .entry)) (now (heads .entry)) (now (next .entry)) capacity m)
         (IsWalked (now (entries .exit)) (now (lefts .exit)) (now (rights .exit)) (now (heads .exit)) (now (next .exit)) capacity w) ⌝ }
 {
-    let mut turned = 0;
-    let mut count = m;
+    let mut w = Walked {
+        turned: 0,
+        count: m,
+        full: false,
+    };
     let mut i = 0;
-    while i < count {
+    while i < w.count {
         let v = table::visit(
             rows,
             roots,
             names,
             entries,
             capacity,
-            count,
+            w.count,
             i,
             lefts,
             rights,
@@ -72,23 +75,16 @@ pub fn walk(
             next,
         );
         if v.full {
-            return Walked {
-                turned,
-                count,
-                full: true,
-            };
+            w.full = true;
+            return w;
         }
         if v.turned && i < m {
-            turned += 1;
+            w.turned += 1;
         }
-        count = v.count;
+        w.count = v.count;
         i += 1;
     }
-    Walked {
-        turned,
-        count,
-        full: false,
-    }
+    w
 }
 
 // Sets same-as of the `m` entries: of each, the first entry with its two names.

@@ -90,11 +90,11 @@ pub fn walk(
 // Sets same-as of the `m` entries: of each, the first entry with its two names.
 pub fn settle(
     entries: &mut [u32],
+    m: usize,
     lefts: &[u32],
     rights: &[u32],
     heads: &[u32],
     next: &[u32],
-    m: usize,
 )
     requires { ⌜ GivenTable (ToSettle (now entries) (now lefts) (now rights) (now heads) (now next) m) ⌝ }
     ensures { λ _. ⌜ Whatever (ToSettle (now (entries .entry)) (now (lefts .entry)) (now (rights .entry)) (now (heads .entry)) (now (next .entry)) m)

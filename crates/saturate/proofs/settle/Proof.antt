@@ -8,10 +8,10 @@ use Rattle.saturate.proofs.settle.Statement.{statement}
 use Rattle.saturate.proofs.settle.Tie as tie
 
 abbrev Inv-loop : tie.InvT-loop
-Inv-loop entries₀ lefts rights heads next m i₀ entries i = Settling entries₀ lefts rights heads next m entries i
+Inv-loop entries₀ m lefts rights heads next i₀ entries i = Settling entries₀ lefts rights heads next m entries i
 
 abbrev μ-loop : tie.MeasureT-loop
-μ-loop entries₀ lefts rights heads next m i₀ entries i = m - i
+μ-loop entries₀ m lefts rights heads next i₀ entries i = m - i
 
 loop-holds : tie.Need-loop-holds Inv-loop μ-loop
 loop-holds c = settling-none _ _ _ _ _ _

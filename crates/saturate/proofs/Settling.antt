@@ -4,7 +4,7 @@ use mathlib.Core.List.{List, [], _∷_, _++_, append-nil, append-assoc}
 use Prim.Native.Nat.{ℕ, suc, _+_, _*_, _≤_, _<_}
 use native.Mathlib.Numerals.{add-one}
 use native.Mathlib.Omega.{arith}
-use lib.ListN.{length, getD, take, drop, set, length-append, drop-of-length-le}
+use lib.ListN.{length, take, drop, set, length-append, drop-of-length-le}
 use lib.Seq.{paste, take-at, set-at, getD-at, take-all, take-suc, drop-cons, length-take-le}
 use Rattle.model.specs.Term.{Book, Bindings}
 use Rattle.model.specs.Table.{Entry, Table, holeAt, entry, entryOf, settle}

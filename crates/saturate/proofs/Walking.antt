@@ -1,21 +1,20 @@
 -- The walk of a table in slices: after i visits they hold the table that a walk of i steps makes, and the entries from i on are as
 -- they were. Assumes nothing.
-use mathlib.Core.Path.{_≡_, refl, ap, sym, _∙_}
+use mathlib.Core.Path.{_≡_, refl, sym, _∙_}
 use mathlib.Core.List.{List}
-use mathlib.Core.Bool.{Bool, true, false, cond, _&&_, true≢false}
+use mathlib.Core.Bool.{true, false, cond, _&&_, true≢false}
 use mathlib.Core.Logic.{_⊎_, inl, inr}
-use Prim.Native.Nat.{ℕ, zero, suc, _+_, _-_, _≤_, _<_}
+use Prim.Native.Nat.{ℕ, suc, _+_, _-_, _≤_, _<_}
 use native.Mathlib.Nat.{zero-add}
-use native.Mathlib.Numerals.{add-one}
 use native.Mathlib.Omega.{arith}
 use borrow.Author.Tests.{lt-ltb, le-ltb, ltb-true}
 use lib.ListN.{length}
 use lib.Dec.{ltb}
-use Rattle.model.specs.Term.{Node, arguments, alike, symbol, Book, Bindings, root}
-use Rattle.model.specs.Table.{isHole, common, Table, entry, placeAll, turn, visit, walk}
+use Rattle.model.specs.Term.{Node, arguments, Book, Bindings}
+use Rattle.model.specs.Table.{isHole, Table, entry, turn, visit, walk}
 use Rattle.model.specs.Step.{turned}
-use Rattle.theory.proofs.Table.Place.{lt-or-le, grown, placeAll-old, placeAll-longer, turn-length, turn-same, turn-other, visit-cases, visit-extends, Walked, on, over, walk-cases, walk-extends}
-use Rattle.theory.proofs.Table.WalkLength.{toTurn, not-both, walk-split, walk-idle, walk-longer}
+use Rattle.theory.proofs.Table.Place.{lt-or-le, grown, placeAll-old, placeAll-longer, turn-length, turn-other, visit-cases, visit-extends, Walked, on, over, walk-cases, walk-extends}
+use Rattle.theory.proofs.Table.WalkLength.{toTurn, walk-split, walk-idle, walk-longer}
 use Rattle.table.specs.Stands.{Stands, GivenTable, Whatever}
 use Rattle.table.specs.Steps.{ToVisit, IsVisited}
 use Rattle.table.specs.declared.Visited.{Visited}

@@ -1,5 +1,5 @@
 -- Rows that hold a table: what is read there, and what is put there. Assumes nothing.
-use mathlib.Core.Path.{_≡_, refl, ap, sym, _∙_}
+use mathlib.Core.Path.{_≡_, ap, sym, _∙_}
 use mathlib.Core.List.{List, [], _∷_, _++_, append-assoc, append-nil}
 use mathlib.Core.Logic.{_⊎_, inl, inr}
 use Prim.Native.Nat.{ℕ, zero, suc, _+_, _*_, _-_, _≤_, _<_}
@@ -11,7 +11,7 @@ use Rattle.model.specs.Lists.{concatMap, padded}
 use Rattle.model.specs.Table.{Entry, Table, holeAt, entry}
 use Rattle.model.specs.Area.{entryRowWords, entryWords}
 use Rattle.theory.proofs.Lists.Laws.{concatMap-append}
-use Rattle.theory.proofs.Lists.Rows.{Wide, drop-behind, length-rows, row, length-padded, padded-row}
+use Rattle.theory.proofs.Lists.Rows.{Wide, drop-behind, length-rows, row, padded-row}
 use Rattle.theory.proofs.Table.Search.{lt-or-le, eq-or-not}
 use Rattle.table.specs.Stands.{HoldsTable}
 

@@ -2,15 +2,15 @@
 use mathlib.Core.Path.{_≡_, refl, ap, sym, _∙_}
 use mathlib.Core.List.{List, [], _∷_, _++_}
 use mathlib.Core.Bool.{true, false, true≢false}
-use Prim.Native.Nat.{ℕ, suc, _+_, _*_, _≤_, _<_}
+use Prim.Native.Nat.{ℕ, _+_, _*_, _≤_, _<_}
 use native.Mathlib.Numerals.{add-one}
 use native.Mathlib.Omega.{arith}
 use borrow.Author.Tests.{lt-ltb, le-ltb}
-use lib.ListN.{length, set, replicate, length-append, length-set}
+use lib.ListN.{length, replicate, length-append, length-set}
 use lib.Seq.{paste}
 use Rattle.model.specs.Lists.{padded}
-use Rattle.model.specs.Term.{Book, Bindings, name}
-use Rattle.model.specs.Table.{Table, holeAt, entryOf, place}
+use Rattle.model.specs.Term.{Book, Bindings}
+use Rattle.model.specs.Table.{Table, holeAt, entryOf}
 use Rattle.model.specs.Area.{entryRowWords, entryWords, kindWords}
 use Rattle.theory.proofs.Table.Place.{Placed, there, appended, place-cases, place-found}
 use Rattle.layout.specs.Rows.{at}

@@ -2,13 +2,12 @@
 use mathlib.Core.Path.{_≡_, refl, ap, sym, _∙_}
 use mathlib.Core.List.{List, [], _∷_, _++_}
 use mathlib.Core.Bool.{true, false, true≢false}
-use Prim.Native.Nat.{ℕ, suc, _+_, _≤_, _<_}
+use Prim.Native.Nat.{ℕ, _+_, _≤_, _<_}
 use native.Mathlib.Numerals.{add-one}
 use native.Mathlib.Omega.{arith}
 use borrow.Author.Tests.{lt-ltb, ltb-true}
-use lib.ListN.{length, getD, take, drop, set, replicate, take-append-drop}
-use lib.Seq.{take-all, take-suc, getD-take, length-take-le}
-use lib.Dec.{ltb}
+use lib.ListN.{length, take, drop, set, replicate, take-append-drop}
+use lib.Seq.{take-all, take-suc, length-take-le}
 use Rattle.model.specs.Limits.{maxArity}
 use Rattle.model.specs.Lists.{pairwise, padded}
 use Rattle.model.specs.Term.{Book, Bindings}

@@ -1,15 +1,15 @@
 -- Turning an entry in slices: its argument pairs are placed, and its row is put anew. Assumes nothing.
 use mathlib.Core.Path.{_≡_, refl, ap, sym, _∙_}
-use mathlib.Core.List.{List, [], _∷_, _++_}
+use mathlib.Core.List.{List, []}
 use mathlib.Core.Bool.{Bool, true, false, true≢false}
-use Prim.Native.Nat.{ℕ, suc, _+_, _*_, _-_, _≤_, _<_}
+use Prim.Native.Nat.{ℕ, _+_, _*_, _-_, _≤_, _<_}
 use native.Mathlib.Nat.{add-sub-cancel-left}
 use native.Mathlib.Omega.{arith}
 use lib.ListN.{length, getD, take, drop, length-append, length-drop}
 use lib.Seq.{paste, getD-at, length-take-le}
 use Rattle.model.specs.Limits.{maxArity}
-use Rattle.model.specs.Lists.{pairwise, padded}
-use Rattle.model.specs.Term.{Node, var, symbol, arguments, alike, Book, Bindings}
+use Rattle.model.specs.Lists.{pairwise}
+use Rattle.model.specs.Term.{Node, symbol, arguments, alike, Book, Bindings}
 use Rattle.model.specs.Table.{common, Entry, Table, entry, entryOf, turn}
 use Rattle.model.specs.Area.{termWords, entryRowWords, entryWords, kindWords}
 use Rattle.theory.proofs.Lists.Laws.{true-T, length-pairwise}
@@ -22,7 +22,7 @@ use Rattle.area.specs.declared.Entry.{Entry as Row}
 use Rattle.entries.specs.Known.{Held}
 use Rattle.entries.proofs.Rows.{formed, term-row, row-end}
 use Rattle.entries.proofs.EntryKind.{left-applied, right-applied, arguments-known}
-use Rattle.table.specs.Stands.{HoldsTable, Stands, Reaches, GivenTable, Whatever}
+use Rattle.table.specs.Stands.{Stands, Reaches}
 use Rattle.table.specs.Steps.{ToPlaceAll, ArePlaced, turnedRow, IsTurned}
 use Rattle.table.specs.declared.Arguments.{Arguments}
 use Rattle.table.specs.declared.Visited.{Visited}

@@ -8,7 +8,7 @@ use native.Mathlib.Omega.{arith}
 use lib.ListN.{length, getD, take, drop}
 use Rattle.model.specs.Lists.{padded}
 use Rattle.model.specs.Term.{alike, Book, Bindings, root}
-use Rattle.model.specs.Table.{Kind, hole, common, isHole, Entry, Table, entry, turn, visit}
+use Rattle.model.specs.Table.{Kind, hole, common, isHole, Table, entry, turn, visit}
 use Rattle.model.specs.Area.{termWords, entryRowWords, entryWords, kindWords}
 use Rattle.theory.proofs.Table.Place.{visit-cases}
 use Rattle.theory.proofs.Table.WalkLength.{not-both, visit-idle}

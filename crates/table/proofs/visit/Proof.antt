@@ -39,66 +39,73 @@ alike-requires c κs =
 returns-2 : tie.Need-returns-2
 returns-2 c b β es q = visit-unlike q _ (c .before .before .before .before .before .before .before .before .entry-at .ensures) (sym (c .before .alike .ensures) ∙ not-true _ (c .if2 .taken))
 
+-- the start and the entry read, from where the roots are alike
+abbrev start : tie.Else2 → tie.Start
+start c = c .before .before .before .before .before .before .before .before .before .before .before .before .before .before .before .before .before .before
+
+abbrev found : tie.Else2 → tie.After-entry-at
+found c = c .before .before .before .before .before .before .before .before
+
 -- the arguments of both terms lie in the rows
 mul-ls : tie.Need-mul-ls
-mul-ls c = let start = c .before .before .before .before .before .before .before .before .before .before .before .before .before .before .before .before .before .before in omega (arith, left-end (start .pre .known) _ (c .before .before .before .before .before .before .before .before .entry-at .ensures), start .good .0)
+mul-ls c = omega (arith, left-end (start c .pre .known) _ (found c .entry-at .ensures), start c .good .0)
 
 add-ls : tie.Need-add-ls
-add-ls c = let start = c .before .before .before .before .before .before .before .before .before .before .before .before .before .before .before .before .before .before in omega (arith, left-end (start .pre .known) _ (c .before .before .before .before .before .before .before .before .entry-at .ensures), start .good .0)
+add-ls c = omega (arith, left-end (start c .pre .known) _ (found c .entry-at .ensures), start c .good .0)
 
 mul-ls-end : tie.Need-mul-ls-end
-mul-ls-end c = let start = c .before .before .before .before .before .before .before .before .before .before .before .before .before .before .before .before .before .before in omega (arith, left-end (start .pre .known) _ (c .before .before .before .before .before .before .before .before .entry-at .ensures), start .good .0)
+mul-ls-end c = omega (arith, left-end (start c .pre .known) _ (found c .entry-at .ensures), start c .good .0)
 
 add-ls-end : tie.Need-add-ls-end
-add-ls-end c = let start = c .before .before .before .before .before .before .before .before .before .before .before .before .before .before .before .before .before .before in omega (arith, left-end (start .pre .known) _ (c .before .before .before .before .before .before .before .before .entry-at .ensures), start .good .0)
+add-ls-end c = omega (arith, left-end (start c .pre .known) _ (found c .entry-at .ensures), start c .good .0)
 
 mul-ls-end-2 : tie.Need-mul-ls-end-2
-mul-ls-end-2 c = let start = c .before .before .before .before .before .before .before .before .before .before .before .before .before .before .before .before .before .before in omega (arith, left-end (start .pre .known) _ (c .before .before .before .before .before .before .before .before .entry-at .ensures), start .good .0)
+mul-ls-end-2 c = omega (arith, left-end (start c .pre .known) _ (found c .entry-at .ensures), start c .good .0)
 
 mul-rs : tie.Need-mul-rs
-mul-rs c = let start = c .before .before .before .before .before .before .before .before .before .before .before .before .before .before .before .before .before .before in omega (arith, right-end (start .pre .known) _ (c .before .before .before .before .before .before .before .before .entry-at .ensures), start .good .0)
+mul-rs c = omega (arith, right-end (start c .pre .known) _ (found c .entry-at .ensures), start c .good .0)
 
 add-rs : tie.Need-add-rs
-add-rs c = let start = c .before .before .before .before .before .before .before .before .before .before .before .before .before .before .before .before .before .before in omega (arith, right-end (start .pre .known) _ (c .before .before .before .before .before .before .before .before .entry-at .ensures), start .good .0)
+add-rs c = omega (arith, right-end (start c .pre .known) _ (found c .entry-at .ensures), start c .good .0)
 
 shared-slice-read-ls-end : tie.Need-shared-slice-read-ls-end
-shared-slice-read-ls-end c = let start = c .before .before .before .before .before .before .before .before .before .before .before .before .before .before .before .before .before .before .before in omega (arith, left-end (start .pre .known) _ (c .before .before .before .before .before .before .before .before .before .entry-at .ensures), start .good .0)
+shared-slice-read-ls-end c = omega (arith, left-end (start (c .before) .pre .known) _ (found (c .before) .entry-at .ensures), start (c .before) .good .0)
 
 cast-ls-end : tie.Need-cast-ls-end
-cast-ls-end c = let start = c .before .before .before .before .before .before .before .before .before .before .before .before .before .before .before .before .before .before .before in omega (arith, left-end (start .pre .known) _ (c .before .before .before .before .before .before .before .before .before .entry-at .ensures), start .good .0)
+cast-ls-end c = omega (arith, left-end (start (c .before) .pre .known) _ (found (c .before) .entry-at .ensures), start (c .before) .good .0)
 
 add-ls-end-2 : tie.Need-add-ls-end-2
-add-ls-end-2 c = let start = c .before .before .before .before .before .before .before .before .before .before .before .before .before .before .before .before .before .before .before in omega (arith, left-end (start .pre .known) _ (c .before .before .before .before .before .before .before .before .before .entry-at .ensures), start .good .0)
+add-ls-end-2 c = omega (arith, left-end (start (c .before) .pre .known) _ (found (c .before) .entry-at .ensures), start (c .before) .good .0)
 
 mul-rs-end : tie.Need-mul-rs-end
-mul-rs-end c = let start = c .before .before .before .before .before .before .before .before .before .before .before .before .before .before .before .before .before .before .before in omega (arith, right-end (start .pre .known) _ (c .before .before .before .before .before .before .before .before .before .entry-at .ensures), start .good .0)
+mul-rs-end c = omega (arith, right-end (start (c .before) .pre .known) _ (found (c .before) .entry-at .ensures), start (c .before) .good .0)
 
 add-rs-end : tie.Need-add-rs-end
-add-rs-end c = let start = c .before .before .before .before .before .before .before .before .before .before .before .before .before .before .before .before .before .before .before in omega (arith, right-end (start .pre .known) _ (c .before .before .before .before .before .before .before .before .before .entry-at .ensures), start .good .0)
+add-rs-end c = omega (arith, right-end (start (c .before) .pre .known) _ (found (c .before) .entry-at .ensures), start (c .before) .good .0)
 
 mul-rs-end-2 : tie.Need-mul-rs-end-2
-mul-rs-end-2 c = let start = c .before .before .before .before .before .before .before .before .before .before .before .before .before .before .before .before .before .before .before in omega (arith, right-end (start .pre .known) _ (c .before .before .before .before .before .before .before .before .before .entry-at .ensures), start .good .0)
+mul-rs-end-2 c = omega (arith, right-end (start (c .before) .pre .known) _ (found (c .before) .entry-at .ensures), start (c .before) .good .0)
 
 shared-slice-read-rs-end : tie.Need-shared-slice-read-rs-end
-shared-slice-read-rs-end c = let start = c .before .before .before .before .before .before .before .before .before .before .before .before .before .before .before .before .before .before .before .before in omega (arith, right-end (start .pre .known) _ (c .before .before .before .before .before .before .before .before .before .before .entry-at .ensures), start .good .0)
+shared-slice-read-rs-end c = omega (arith, right-end (start (c .before .before) .pre .known) _ (found (c .before .before) .entry-at .ensures), start (c .before .before) .good .0)
 
 cast-rs-end : tie.Need-cast-rs-end
-cast-rs-end c = let start = c .before .before .before .before .before .before .before .before .before .before .before .before .before .before .before .before .before .before .before .before in omega (arith, right-end (start .pre .known) _ (c .before .before .before .before .before .before .before .before .before .before .entry-at .ensures), start .good .0)
+cast-rs-end c = omega (arith, right-end (start (c .before .before) .pre .known) _ (found (c .before .before) .entry-at .ensures), start (c .before .before) .good .0)
 
 add-rs-end-2 : tie.Need-add-rs-end-2
-add-rs-end-2 c = let start = c .before .before .before .before .before .before .before .before .before .before .before .before .before .before .before .before .before .before .before .before in omega (arith, right-end (start .pre .known) _ (c .before .before .before .before .before .before .before .before .before .before .entry-at .ensures), start .good .0)
+add-rs-end-2 c = omega (arith, right-end (start (c .before .before) .pre .known) _ (found (c .before .before) .entry-at .ensures), start (c .before .before) .good .0)
 
 mul-place-all : tie.Need-mul-place-all
-mul-place-all c = let start = c .before .before .before .before .before .before .before .before .before .before .before .before .before .before .before .before .before .before .before .before .before in omega (arith, left-end (start .pre .known) _ (c .before .before .before .before .before .before .before .before .before .before .before .entry-at .ensures), start .good .0)
+mul-place-all c = omega (arith, left-end (start (c .before .before .before) .pre .known) _ (found (c .before .before .before) .entry-at .ensures), start (c .before .before .before) .good .0)
 
 part-place-all-end : tie.Need-part-place-all-end
-part-place-all-end c = let start = c .before .before .before .before .before .before .before .before .before .before .before .before .before .before .before .before .before .before .before .before .before in omega (arith, left-end (start .pre .known) _ (c .before .before .before .before .before .before .before .before .before .before .before .entry-at .ensures), start .good .0)
+part-place-all-end c = omega (arith, left-end (start (c .before .before .before) .pre .known) _ (found (c .before .before .before) .entry-at .ensures), start (c .before .before .before) .good .0)
 
 mul-place-all-2 : tie.Need-mul-place-all-2
-mul-place-all-2 c = let start = c .before .before .before .before .before .before .before .before .before .before .before .before .before .before .before .before .before .before .before .before .before .before in omega (arith, right-end (start .pre .known) _ (c .before .before .before .before .before .before .before .before .before .before .before .before .entry-at .ensures), start .good .0)
+mul-place-all-2 c = omega (arith, right-end (start (c .before .before .before .before) .pre .known) _ (found (c .before .before .before .before) .entry-at .ensures), start (c .before .before .before .before) .good .0)
 
 part-place-all-end-2 : tie.Need-part-place-all-end-2
-part-place-all-end-2 c = let start = c .before .before .before .before .before .before .before .before .before .before .before .before .before .before .before .before .before .before .before .before .before .before in omega (arith, right-end (start .pre .known) _ (c .before .before .before .before .before .before .before .before .before .before .before .before .entry-at .ensures), start .good .0)
+part-place-all-end-2 c = omega (arith, right-end (start (c .before .before .before .before) .pre .known) _ (found (c .before .before .before .before) .entry-at .ensures), start (c .before .before .before .before) .good .0)
 
 -- roots that are alike
 place-all-requires : tie.Need-place-all-requires

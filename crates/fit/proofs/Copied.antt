@@ -14,7 +14,8 @@ use Rattle.model.specs.Call.{refuse, guard, emit, callCopy, callWrite}
 use Rattle.theory.proofs.Book.Round.{parsed-formed}
 use Rattle.layout.specs.Rows.{bookOf}
 use Rattle.book.specs.Rows.{bookRows, refusalOf, decodedBook}
-use Rattle.state.specs.Loading.{held, headerOf}
+use Rattle.area.specs.Held.{held}
+use Rattle.state.specs.Loading.{headerOf}
 use Rattle.state.specs.Ready.{Read}
 use Rattle.state.proofs.Uses.{read-facts, read-rows, read-terms}
 use Rattle.fit.proofs.OpenCases.{decoded, copy-refused, copy-parsed}

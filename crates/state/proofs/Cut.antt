@@ -15,7 +15,8 @@ use Rattle.area.specs.declared.Header.{Header}
 use Rattle.sound.specs.Sound.{headerOk}
 use Rattle.sound.proofs.Tests.{header-facts}
 use Rattle.sound.proofs.Theorems.{sound-by-parts}
-use Rattle.state.specs.Loading.{Sizes, held, headerOf, HeaderOf}
+use Rattle.area.specs.Held.{held}
+use Rattle.state.specs.Loading.{Sizes, headerOf, HeaderOf}
 use Rattle.state.specs.Ready.{Read}
 
 -- an area whose header is not in order is not sound

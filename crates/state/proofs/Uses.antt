@@ -24,7 +24,8 @@ use Rattle.sound.proofs.Tests.{row-facts}
 use Rattle.sound.proofs.State.{Fits}
 use Rattle.sound.proofs.Parts.{Holds}
 use Rattle.sound.proofs.Chain.{rows-hold}
-use Rattle.state.specs.Loading.{held, headerOf}
+use Rattle.area.specs.Held.{held}
+use Rattle.state.specs.Loading.{headerOf}
 use Rattle.state.specs.Ready.{Ready, Read}
 
 -- a sound area has a header

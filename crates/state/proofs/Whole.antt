@@ -25,7 +25,8 @@ use Rattle.sound.proofs.Tests.{header-facts}
 use Rattle.sound.proofs.Words.{loaded-sized}
 use Rattle.sound.proofs.Theorems.{sound-by-parts, state-by-parts}
 use Rattle.entries.specs.Known as Known
-use Rattle.state.specs.Loading.{Sizes, Words, held, Used, HeaderOf}
+use Rattle.area.specs.Held.{held}
+use Rattle.state.specs.Loading.{Sizes, Words, Used, HeaderOf}
 use Rattle.state.specs.Ready.{Valued, Room, Lent, Ready, Read}
 
 -- numbers that each fit a byte are bytes

@@ -22,20 +22,6 @@ pub record Words (w : Loaded) (rows bindings lines entries : List ℕ) : Type 0 
   pub is-lines : lines ≡ w .lineWords
   pub is-entries : entries ≡ w .entryRows
 
--- The loaded state of a header and the slices.
-abbrev pub held : Header → List ℕ → List ℕ → List ℕ → List ℕ → Loaded
-held h rows bindings lines entries =
-    record {
-      capacity = h .capacity;
-      terms = h .terms;
-      entries = h .entries;
-      lines = h .lines;
-      termRows = rows;
-      bindingWords = bindings;
-      lineWords = lines;
-      entryRows = entries;
-    }
-
 -- The rows and words that the numbers of a loaded state count lie in its lists.
 pub record Used (w : Loaded) : Type 0 where
   pub terms-fit : termWords * w .terms ≤ length (w .termRows)

@@ -9,7 +9,7 @@ ghost use Rattle.model.specs.Call.{over};
 ghost use Rattle.theory.specs.Modest.{Modest};
 ghost use Rattle.layout.specs.Limits.{limitsOf};
 ghost use Rattle.layout.specs.Rows.{Sized, loadedWords};
-ghost use Rattle.store.specs.Held.{held};
+ghost use Rattle.area.specs.Held.{held};
 
 // Writes the needed length of an area; what lies beyond it stays.
 pub fn store(

@@ -10,7 +10,8 @@ use denote.Ref.{now}
 use Rattle.model.specs.Limits.{office}
 use Rattle.model.specs.Area.{entryRowWords, word, sound}
 use Rattle.theory.proofs.Lists.Laws.{true-T}
-use Rattle.state.specs.Loading.{held, headerOf}
+use Rattle.area.specs.Held.{held}
+use Rattle.state.specs.Loading.{headerOf}
 use Rattle.state.specs.Ready.{Read}
 use Rattle.state.proofs.Uses.{sound-header, read-entries, entry-within, entry-row}
 use Rattle.fit.proofs.EntryCases.{entry-seven, entry-eight, entry-there}

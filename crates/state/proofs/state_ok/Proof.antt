@@ -10,7 +10,7 @@ use Rattle.layout.specs.Rows.{Loaded, bookOf, boundOf}
 use Rattle.sound.specs.Sound.{rowsOk}
 use Rattle.entries.specs.Known.{Known}
 use Rattle.entries.proofs.Places.{room-kept}
-use Rattle.state.specs.Loading.{held}
+use Rattle.area.specs.Held.{held}
 use Rattle.state.specs.Ready.{Valued}
 use Rattle.state.proofs.Tested.{good-terms, table-known, rows-refused, cycle-refused, table-decides}
 use Rattle.state.proofs.state_ok.Statement.{statement}

@@ -1,6 +1,6 @@
 -- Copying a book by way of its rows, and writing the book of an area: the rows hold the book, and what is emitted of it is the
 -- outcome of the call. Assumes nothing.
-use mathlib.Core.Path.{_≡_, refl, sym, ap, _∙_}
+use mathlib.Core.Path.{_≡_, refl, _∙_}
 use mathlib.Core.List.{List, [], map}
 use mathlib.Core.Bool.{true, false}
 use mathlib.Core.Option.{none}

@@ -1,10 +1,10 @@
 -- The rows of an area's capacity, cut from a slice that has those of the largest. Assumes nothing.
 use mathlib.Core.Path.{_≡_, sym, ap, _∙_}
 use mathlib.Core.List.{List, _++_}
-use mathlib.Core.Bool.{Bool, false}
+use mathlib.Core.Bool.{false}
 use Prim.Native.Nat.{ℕ, _*_, _≤_}
 use native.Mathlib.Omega.{arith}
-use lib.ListN.{length, take}
+use lib.ListN.{length, take, drop, length-append, take-append-drop}
 use lib.Seq.{take-at, length-take-le}
 use lib.Dec.{T}
 use Rattle.leb128.specs.Laws.{areBytes}
@@ -16,8 +16,9 @@ use Rattle.sound.specs.Sound.{headerOk}
 use Rattle.sound.proofs.Tests.{header-facts}
 use Rattle.sound.proofs.Theorems.{sound-by-parts}
 use Rattle.area.specs.Held.{held}
-use Rattle.state.specs.Loading.{Sizes, headerOf, HeaderOf}
+use Rattle.state.specs.Loading.{Sizes, headerOf}
 use Rattle.state.specs.Ready.{Read}
+use Rattle.state.proofs.Whole.{HeaderOf}
 
 -- an area whose header is not in order is not sound
 pub header-refused : (lim : Limits) (area : List ℕ) → Modest lim → T (areBytes area) → headerOk lim area ≡ false → false ≡ sound lim area
@@ -49,6 +50,10 @@ module _ (lim : Limits) (area : List ℕ) (ok : T (headerOk lim area)) where
           lines-size = z .lines-size;
           entries-size = length-take-le (entryRowWords * h .capacity) entries cut-fits ∙ ap (λ n. entryRowWords * n) (head .0);
         }
+
+-- with another part of that length the slice is as long as it was
+pub cut-length : (n : ℕ) (xs part : List ℕ) → length part ≡ length (take n xs) → length (part ++ drop n xs) ≡ length xs
+cut-length n xs part e = rw (length-append part (drop n xs), e, ← length-append (take n xs) (drop n xs), take-append-drop n xs)
 
 -- what was read into that part stands at the front of the slice
 pub cut-read : (lim : Limits) (area : List ℕ) (h : Header) → HeaderOf area h → {rows bindings lines part list roots names : List ℕ}

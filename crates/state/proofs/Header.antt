@@ -1,11 +1,11 @@
 -- A header is refused by each of its tests, and passes where all hold. Assumes nothing.
 use mathlib.Core.Path.{_≡_}
 use mathlib.Core.List.{List}
-use mathlib.Core.Bool.{Bool, false}
+use mathlib.Core.Bool.{false}
 use Prim.Native.Nat.{ℕ, _*_, _≤_, _<_}
 use native.Mathlib.Omega.{arith}
 use lib.ListN.{length}
-use lib.Dec.{T, leb, leb→le}
+use lib.Dec.{leb, leb→le}
 use Rattle.model.specs.Limits.{Limits}
 use Rattle.model.specs.Area.{wordSize, headerWords, areaLength, word}
 use Rattle.theory.proofs.Lists.Laws.{not-T-false, same-test, true-T}

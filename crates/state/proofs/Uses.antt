@@ -8,20 +8,18 @@ use lib.ListN.{length, take, drop, length-take}
 use lib.Seq.{take-take}
 use lib.Dec.{T}
 use Rattle.model.specs.Limits.{Limits}
-use Rattle.model.specs.Term.{Book}
 use Rattle.model.specs.Table.{entry}
 use Rattle.model.specs.Step.{State}
 use Rattle.model.specs.Lists.{concatMap, padded}
-use Rattle.model.specs.Area.{wordSize, headerWords, termWords, entryRowWords, areaLength, nodeWords, entryWords, word, sound, soundState, stateOf}
+use Rattle.model.specs.Area.{wordSize, headerWords, termWords, entryRowWords, areaLength, nodeWords, entryWords, word, sound, stateOf}
 use Rattle.theory.proofs.Area.Bytes.{sound-carries}
 use Rattle.theory.proofs.Soundness.Facts.{SoundFacts}
 use Rattle.theory.proofs.Soundness.Test.{sound-facts}
-use Rattle.layout.specs.Rows.{Loaded, loadedState, bookOf, Sized}
+use Rattle.layout.specs.Rows.{Loaded, loadedState}
 use Rattle.layout.proofs.Rows.{length-bookOf, length-tableOf, getD-tableOf}
 use Rattle.rows.proofs.Parts.{run-behind}
 use Rattle.sound.proofs.Facts.{RowFacts}
 use Rattle.sound.proofs.Tests.{row-facts}
-use Rattle.sound.proofs.State.{Fits}
 use Rattle.sound.proofs.Parts.{Holds}
 use Rattle.sound.proofs.Chain.{rows-hold}
 use Rattle.area.specs.Held.{held}

@@ -1,15 +1,15 @@
 -- A whole area: its bytes, the room that its state takes, and what the tests of its loaded words say of it. Assumes nothing.
-use mathlib.Core.Path.{_≡_, refl, sym, ap, _∙_, subst}
+use mathlib.Core.Path.{_≡_, sym, ap, _∙_}
 use mathlib.Core.List.{List, [], _∷_}
-use mathlib.Core.Bool.{Bool, true, _&&_}
-use Prim.Native.Nat.{ℕ, zero, suc, _+_, _*_, _≤_, _<_}
+use mathlib.Core.Bool.{Bool, true}
+use Prim.Native.Nat.{ℕ, zero, suc, _≤_, _<_}
 use native.Mathlib.Omega.{arith}
-use lib.ListN.{length, getD}
+use lib.ListN.{getD}
 use lib.Dec.{T, ltb, lt→ltb}
 use Rattle.leb128.specs.Laws.{areBytes}
-use Rattle.model.specs.Limits.{Limits, maxArity}
+use Rattle.model.specs.Limits.{Limits}
 use Rattle.model.specs.Term.{acyclic}
-use Rattle.model.specs.Area.{termWords, entryRowWords, word, wordsAt, sound, stateOf}
+use Rattle.model.specs.Area.{word, sound, stateOf}
 use Rattle.theory.specs.Modest.{Modest}
 use Rattle.theory.proofs.Lists.Laws.{T-true, true-T, and-both}
 use Rattle.theory.proofs.Lists.Conjunctions.{and₃}
@@ -17,17 +17,19 @@ use Rattle.theory.proofs.Soundness.Test.{facts-sound}
 use Rattle.theory.proofs.Area.Bytes.{sound-carries}
 use Rattle.layout.specs.Rows.{Loaded, loadedState, Sized}
 use Rattle.area.specs.declared.Header.{Header}
-use Rattle.names.specs.Classes.{Scratch}
-use Rattle.names.proofs.Lowest.{scratch-kept}
 use Rattle.sound.specs.Sound.{loaded, headerOk, rowsOk, tableOk, soundLoaded}
-use Rattle.sound.proofs.Facts.{HeaderFacts}
 use Rattle.sound.proofs.Tests.{header-facts}
 use Rattle.sound.proofs.Words.{loaded-sized}
 use Rattle.sound.proofs.Theorems.{sound-by-parts, state-by-parts}
 use Rattle.entries.specs.Known as Known
 use Rattle.area.specs.Held.{held}
-use Rattle.state.specs.Loading.{Sizes, Words, Used, HeaderOf}
-use Rattle.state.specs.Ready.{Valued, Room, Lent, Ready, Read}
+use Rattle.state.specs.Loading.{Words, Used}
+use Rattle.state.specs.Ready.{Valued, Room, Lent, Read}
+
+-- The header's numbers are the first words of the area.
+abbrev pub HeaderOf : List ℕ → Header → Type 0
+HeaderOf area h =
+    (h .capacity ≡ word area 0) × (h .terms ≡ word area 1) × (h .entries ≡ word area 2) × (h .lines ≡ word area 3)
 
 -- numbers that each fit a byte are bytes
 pub are-bytes : (xs : List ℕ) → ((i : ℕ) → getD xs i 0 < 256) → T (areBytes xs)
@@ -36,12 +38,11 @@ are-bytes [] h = tt
 are-bytes (x ∷ xs) h = and-both (ltb x 256) (areBytes xs) (lt→ltb x 256 (h zero)) (are-bytes xs (λ i. h (suc i)))
 
 -- room for more terms, or for more entries, is room for fewer
-fewer-terms : {list work roots names lefts rights heads next : List ℕ} {n m : ℕ} → m ≤ n → Room list work roots names lefts rights heads next n
-    → Room list work roots names lefts rights heads next m
+fewer-terms : {list roots names lefts rights heads next : List ℕ} {n m : ℕ} → m ≤ n → Room list roots names lefts rights heads next n
+    → Room list roots names lefts rights heads next m
 fewer-terms l r =
     record {
       list-fits = omega (arith, r .list-fits);
-      roots-fit = omega (arith, r .roots-fit);
       names-fit = omega (arith, r .names-fit);
       scratch = record {
         room = record {
@@ -74,8 +75,8 @@ rows-tested w t =
 
 module _ (lim : Limits) (area : List ℕ) (ok : T (headerOk lim area)) (h : Header) (head : HeaderOf area h) where
   -- the room that is lent is enough for the state of an area whose header is in order
-  module _ {list work roots names lefts rights heads next : List ℕ} (lent : Lent lim list work roots names lefts rights heads next) where
-    pub room-terms : Room list work roots names lefts rights heads next (h .terms)
+  module _ {list roots names lefts rights heads next : List ℕ} (lent : Lent lim list roots names lefts rights heads next) where
+    pub room-terms : Room list roots names lefts rights heads next (h .terms)
     room-terms = fewer-terms (rw (head .1) (header-facts lim area .0 ok .few-terms)) (lent .for-terms)
 
     pub room-entries : Known.Room lefts rights heads next (h .entries)

@@ -29,10 +29,6 @@ pub record Used (w : Loaded) : Type 0 where
   pub lines-fit : w .lines ≤ length (w .lineWords)
   pub entries-fit : entryRowWords * w .entries ≤ length (w .entryRows)
 
--- The header of an area: its first words. A header is that one when its numbers are these.
+-- The header of an area: its first words.
 unfoldable pub headerOf : List ℕ → Header
 headerOf area = record { capacity = word area 0; terms = word area 1; entries = word area 2; lines = word area 3 }
-
-abbrev pub HeaderOf : List ℕ → Header → Type 0
-HeaderOf area h =
-    (h .capacity ≡ word area 0) × (h .terms ≡ word area 1) × (h .entries ≡ word area 2) × (h .lines ≡ word area 3)

@@ -2,7 +2,7 @@
 -- a step takes, which then knows nothing of bytes. Assumes nothing: these are definitions.
 use mathlib.Core.Path.{_≡_}
 use mathlib.Core.List.{List, map}
-use Prim.Native.Nat.{ℕ, _*_, _≤_}
+use Prim.Native.Nat.{ℕ, _≤_}
 use lib.ListN.{length, take}
 use lib.Dec.{T}
 use Rattle.model.specs.Limits.{Limits}
@@ -22,16 +22,15 @@ pub record Valued (rows words list roots names : List ℕ) (n : ℕ) : Type 0 wh
   pub is-roots : take n roots ≡ map (deref (bookOf rows n) (boundOf words n) n) (from 0 n)
   pub is-names : take n names ≡ map (name (bookOf rows n) (boundOf words n)) (from 0 n)
 
--- The slices have room for the values of n terms; `work` and those behind `names` are scratch.
-pub record Room (list work roots names lefts rights heads next : List ℕ) (n : ℕ) : Type 0 where
+-- The slices have room for the values of n terms; those behind `names` are scratch, and so is `roots` at first.
+pub record Room (list roots names lefts rights heads next : List ℕ) (n : ℕ) : Type 0 where
   pub list-fits : n ≤ length list
-  pub roots-fit : n ≤ length roots
   pub names-fit : n ≤ length names
-  pub scratch : Scratch lefts rights heads next work n
+  pub scratch : Scratch lefts rights heads next roots n
 
 -- They have room for every state within the limits.
-pub record Lent (lim : Limits) (list work roots names lefts rights heads next : List ℕ) : Type 0 where
-  pub for-terms : Room list work roots names lefts rights heads next (lim .maxTerms)
+pub record Lent (lim : Limits) (list roots names lefts rights heads next : List ℕ) : Type 0 where
+  pub for-terms : Room list roots names lefts rights heads next (lim .maxTerms)
   pub for-entries : Known.Room lefts rights heads next (lim .maxCapacity)
 
 -- The loaded words are those of a sound state, and the values of its terms are known.

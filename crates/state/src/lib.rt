@@ -1,26 +1,20 @@
 // The state of an area, loaded once and tested: the header, the words of each part, the values of the terms.
 
 ghost use mathlib.Core.Path.{_≡_};
-ghost use mathlib.Core.Bool.{Bool, true};
-ghost use mathlib.Core.List.{_++_, map};
-ghost use Prim.Native.Nat.{_+_, _*_, _≤_, _<_};
-ghost use lib.ListN.{length, take};
+ghost use mathlib.Core.Bool.{true};
+ghost use Prim.Native.Nat.{_*_};
+ghost use lib.ListN.{take};
 ghost use lib.Dec.{T};
-ghost use Rattle.model.specs.Lists.{from};
-ghost use Rattle.model.specs.Term.{deref, name, acyclic};
+ghost use Rattle.model.specs.Term.{acyclic};
 ghost use Rattle.model.specs.Area as Area;
-ghost use Rattle.model.specs.Area.{termWords, entryRowWords, word};
+ghost use Rattle.model.specs.Area.{entryRowWords, word};
 ghost use Rattle.theory.specs.Modest.{Modest};
 ghost use Rattle.layout.specs.Limits.{limitsOf};
-ghost use Rattle.layout.specs.Rows.{bookOf, boundOf, GoodTerms, Loaded};
-ghost use Rattle.values.specs.Reading.{Listed};
-ghost use Rattle.names.specs.Classes.{Scratch};
-ghost use Rattle.sound.specs.Sound.{loaded, headerOk, rowsOk, soundLoaded};
-ghost use Rattle.rows.specs.RowTests.{termRowsOk, bindingsOk, linesOk, entryRowsOk};
+ghost use Rattle.layout.specs.Rows.{bookOf, boundOf, GoodTerms};
+ghost use Rattle.sound.specs.Sound.{loaded, headerOk, rowsOk};
 ghost use Rattle.area.specs.Held.{held};
-ghost use Rattle.state.specs.Loading.{Sizes, Words, Used, headerOf, HeaderOf};
+ghost use Rattle.state.specs.Loading.{Sizes, Words, Used, headerOf};
 ghost use Rattle.state.specs.Ready.{Valued, Room, Lent, Read};
-ghost use Rattle.entries.specs.Known as Known;
 use area::Header;
 use layout::Limits;
 
@@ -90,156 +84,52 @@ pub fn rows_ok(h: Header, rows: &[u32], bindings: &[u32], lines: &[u32], entries
     rows::entry_rows_ok(entries, m, n)
 }
 
-// Whether no value contains itself; then lists the `n` terms, and finds what each stands for and its name. `work`, `lefts`,
-// `rights`, `heads` and `next` are scratch.
+// Whether no value contains itself; then lists the `n` terms, and finds what each stands for and its name. `roots` is scratch
+// until the names are found, and `ls`, `rs`, `heads` and `next` are scratch.
 pub fn name_terms(
-    rows: &[u32],
-    bindings: &[u32],
     n: u32,
     list: &mut [u32],
-    work: &mut [u32],
+    bindings: &[u32],
     roots: &mut [u32],
     names: &mut [u32],
-    lefts: &mut [u32],
-    rights: &mut [u32],
+    ls: &mut [u32],
+    rows: &[u32],
+    rs: &mut [u32],
     heads: &mut [u32],
     next: &mut [u32],
 ) -> bool
-    requires { ⌜ GoodTerms (now rows) (now bindings) n
-        × Room (now list) (now work) (now roots) (now names) (now lefts) (now rights) (now heads) (now next) n ⌝ }
+    requires { ⌜ GoodTerms (now rows) (now bindings) n × Room (now list) (now roots) (now names) (now ls) (now rs) (now heads) (now next) n ⌝ }
     ensures acyclic { λ r. ⌜ r ≡ acyclic (bookOf (now (rows .entry)) n) (boundOf (now (bindings .entry)) n) ⌝ }
     ensures values { λ r. ⌜ (r ≡ true → Valued (now (rows .entry)) (now (bindings .entry)) (now (list .exit)) (now (roots .exit)) (now (names .exit)) n) ⌝ }
 {
-    if !order::order(rows, bindings, n, work, list) {
+    if !order::order(rows, bindings, n, roots, list) {
         return false;
     }
+    names::names(rows, bindings, n, list, ls, rs, heads, next, roots, names);
     values::roots(rows, bindings, n, list, roots);
-    names::names(
-        rows,
-        bindings,
-        n,
-        list,
-        lefts,
-        rights,
-        heads,
-        next,
-        work,
-        names,
-    );
     true
 }
 
-// Whether a loaded state passes all tests; then the terms are listed, with what each stands for and its name. `work`, `lefts`,
-// `rights`, `heads` and `next` are scratch.
-pub fn state_ok(
-    h: Header,
-    rows: &[u32],
-    bindings: &[u32],
-    lines: &[u32],
-    entries: &[u32],
-    list: &mut [u32],
-    work: &mut [u32],
-    roots: &mut [u32],
-    names: &mut [u32],
-    lefts: &mut [u32],
-    rights: &mut [u32],
-    heads: &mut [u32],
-    next: &mut [u32],
-) -> bool
-    requires used { ⌜ Used (held h (now rows) (now bindings) (now lines) (now entries)) ⌝ }
-    requires terms { ⌜ Room (now list) (now work) (now roots) (now names) (now lefts) (now rights) (now heads) (now next) (h .terms) ⌝ }
-    requires entries { ⌜ Known.Room (now lefts) (now rights) (now heads) (now next) (h .entries) ⌝ }
-    ensures sound { λ r. ⌜ r ≡ soundLoaded (held h (now (rows .entry)) (now (bindings .entry)) (now (lines .entry)) (now (entries .entry))) ⌝ }
-    ensures values { λ r. ⌜ (r ≡ true → Valued (now (rows .entry)) (now (bindings .entry)) (now (list .exit)) (now (roots .exit)) (now (names .exit)) (h .terms)) ⌝ }
-{
-    if !rows_ok(h, rows, bindings, lines, entries) {
-        return false;
-    }
-    let n = h.terms;
-    if !name_terms(
-        rows,
-        bindings,
-        n,
-        list,
-        work,
-        roots,
-        names,
-        lefts,
-        rights,
-        heads,
-        next,
-    ) {
-        return false;
-    }
-    let m = h.entries as usize;
-    entries::table_ok(lefts, rights, heads, next, rows, roots, names, entries, m)
-}
-
-// Loads an area whose header is in order, and says whether the area is sound; then the slices hold the words of its state, the
-// list of its terms, what each stands for and its name. `work`, `lefts`, `rights`, `heads` and `next` are scratch.
+// Whether an area of any length and any bytes is sound; then the slices hold the words of its state, those of the entries at the
+// front of theirs, the list of its terms, what each stands for and its name. `ls`, `rs`, `heads` and `next` are scratch.
 pub fn sound(
-    area: &[u8],
-    lim: Limits,
-    h: Header,
     rows: &mut [u32],
     bindings: &mut [u32],
     lines: &mut [u32],
-    entries: &mut [u32],
-    list: &mut [u32],
-    work: &mut [u32],
-    roots: &mut [u32],
-    names: &mut [u32],
-    lefts: &mut [u32],
-    rights: &mut [u32],
-    heads: &mut [u32],
-    next: &mut [u32],
-) -> bool
-    requires header { ⌜ Modest (limitsOf lim) × T (headerOk (limitsOf lim) (now area)) × HeaderOf (now area) h ⌝ }
-    requires sizes { ⌜ Sizes (limitsOf lim) (word (now area) 0) (now rows) (now bindings) (now lines) (now entries) ⌝ }
-    requires lent { ⌜ Lent (limitsOf lim) (now list) (now work) (now roots) (now names) (now lefts) (now rights) (now heads) (now next) ⌝ }
-    ensures sound { λ r. ⌜ r ≡ Area.sound (limitsOf lim) (now (area .entry)) ⌝ }
-    ensures read { λ r. ⌜ (r ≡ true → Read (limitsOf lim) (now (area .entry)) (held h (now (rows .exit)) (now (bindings .exit)) (now (lines .exit)) (now (entries .exit)))
-        (now (list .exit)) (now (roots .exit)) (now (names .exit))) ⌝ }
-{
-    load(area, lim, rows, bindings, lines, entries);
-    state_ok(
-        h,
-        rows,
-        bindings,
-        lines,
-        entries,
-        list,
-        work,
-        roots,
-        names,
-        lefts,
-        rights,
-        heads,
-        next,
-    )
-}
-
-// Whether an area of any length and any bytes is sound; then its state is loaded, as by `sound`, with the rows of its capacity at
-// the front of `entries`. Only the slices are written.
-pub fn read(
-    area: &[u8],
     lim: Limits,
-    rows: &mut [u32],
-    bindings: &mut [u32],
-    lines: &mut [u32],
     entries: &mut [u32],
     list: &mut [u32],
-    work: &mut [u32],
     roots: &mut [u32],
     names: &mut [u32],
-    lefts: &mut [u32],
-    rights: &mut [u32],
+    area: &[u8],
+    ls: &mut [u32],
+    rs: &mut [u32],
     heads: &mut [u32],
     next: &mut [u32],
 ) -> bool
     requires modest { ⌜ Modest (limitsOf lim) ⌝ }
     requires sizes { ⌜ Sizes (limitsOf lim) (lim .capacity) (now rows) (now bindings) (now lines) (now entries) ⌝ }
-    requires lent { ⌜ Lent (limitsOf lim) (now list) (now work) (now roots) (now names) (now lefts) (now rights) (now heads) (now next) ⌝ }
+    requires lent { ⌜ Lent (limitsOf lim) (now list) (now roots) (now names) (now ls) (now rs) (now heads) (now next) ⌝ }
     ensures sound { λ r. ⌜ r ≡ Area.sound (limitsOf lim) (now (area .entry)) ⌝ }
     ensures read { λ r. ⌜ (r ≡ true → Read (limitsOf lim) (now (area .entry))
         (held (headerOf (now (area .entry))) (now (rows .exit)) (now (bindings .exit)) (now (lines .exit)) (take (entryRowWords * word (now (area .entry)) 0) (now (entries .exit))))
@@ -250,21 +140,15 @@ pub fn read(
     }
     let h = area::load_header(area);
     let end = layout::ENTRY_WORDS * (h.capacity as usize);
-    sound(
-        area,
-        lim,
-        h,
-        rows,
-        bindings,
-        lines,
-        &mut entries[..end],
-        list,
-        work,
-        roots,
-        names,
-        lefts,
-        rights,
-        heads,
-        next,
-    )
+    let table = &mut entries[..end];
+    load(area, lim, rows, bindings, lines, table);
+    if !rows_ok(h, rows, bindings, lines, table) {
+        return false;
+    }
+    let n = h.terms;
+    if !name_terms(n, list, bindings, roots, names, ls, rows, rs, heads, next) {
+        return false;
+    }
+    let m = h.entries as usize;
+    entries::table_ok(ls, rs, heads, next, rows, roots, names, table, m)
 }

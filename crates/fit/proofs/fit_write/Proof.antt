@@ -1,13 +1,10 @@
 -- `fit::fit_write` meets its contract. Where the area is sound, its rows are those of its book, and that book is written. Assumes
 -- nothing.
-use mathlib.Core.Path.{_≡_, sym, _∙_}
-use mathlib.Core.Bool.{true}
+use mathlib.Core.Path.{sym, _∙_}
 use native.Mathlib.Omega.{arith}
 use borrow.Author.Needs.{needs}
 use borrow.Author.Tests.{not-true, not-false}
-use denote.Ref.{now}
 use Rattle.model.specs.Limits.{office}
-use Rattle.model.specs.Area.{sound}
 use Rattle.theory.proofs.Lists.Laws.{true-T}
 use Rattle.state.proofs.Uses.{sound-header}
 use Rattle.fit.proofs.Emitted.{refuses, held-encodable, held-few}
@@ -15,44 +12,33 @@ use Rattle.fit.proofs.Copied.{written-seven, read-held, written-book}
 use Rattle.fit.proofs.fit_write.Statement.{statement}
 use Rattle.fit.proofs.fit_write.Tie as tie
 
--- past the test the area is sound
-is-sound : (e : tie.Else1) → sound office (now (e .before .before .before .before .before .before .before .before .before .before .before .before .before .before .before .before .before .before .before .before .before .before .before .before .before .before .before .before .args .area)) ≡ true
-is-sound e = sym (e .before .before .before .before .before .before .before .before .before .before .before .before .before .read .ensures .0) ∙ not-false _ (e .if1 .left)
-
 returns : tie.Need-returns
 returns c =
     let test = c .before .before in
-    refuses (c .refuse .ensures) (written-seven _ _ (sym (test .before .before .before .before .before .before .before .before .before .before .before .before .before .read .ensures .0) ∙ not-true _ (test .if1 .taken)))
+    refuses (c .refuse .ensures) (written-seven _ _ (sym (test .before .before .before .office-sound .ensures .0) ∙ not-true _ (test .if1 .taken)))
 
 load-header-requires : tie.Need-load-header-requires
-load-header-requires c κs = sound-header office _ (true-T _ (is-sound c))
+load-header-requires c κs =
+    sound-header office _ (true-T _ (sym (c .before .before .before .office-sound .ensures .0) ∙ not-false _ (c .if1 .left)))
 
 write-book-requires : tie.Need-write-book-requires
 write-book-requires c κs =
     let h = c .before .before .before .before in
     let e = h .before in
-    let d = read-held (e .before .before .before .before .before .before .before .before .before .before .before .before .before .read .ensures .1 (not-false _ (e .if1 .left))) _ (h .load-header .ensures .1) in (held-encodable d, omega (arith, held-few d))
+    let d = read-held (e .before .before .before .office-sound .ensures .1 (not-false _ (e .if1 .left)) .read) _ (h .load-header .ensures .1) in (held-encodable d, omega (arith, held-few d))
 
 returns-2 : tie.Need-returns-2
 returns-2 c =
     let h = c .before .before .before .before .before .before .before in
     let e = h .before in
-    written-book (e .before .before .before .before .before .before .before .before .before .before .before .before .before .read .ensures .1 (not-false _ (e .if1 .left))) _ (h .load-header .ensures .1) (is-sound e) _ (c .before .before .write-book .ensures)
+    let test = e .before .before .before .office-sound .ensures in
+    let yes = not-false _ (e .if1 .left) in
+    written-book (test .1 yes .read) _ (h .load-header .ensures .1) (sym (test .0) ∙ yes) _ (c .before .before .write-book .ensures)
 
 pub fit-write-spec : {M : Type 1} → statement M
 fit-write-spec =
     tie.close
     (tie.spec
-    (λ c. search needs)
-    (λ c. search needs)
-    (λ c. search needs)
-    (λ c. search needs)
-    (λ c. search needs)
-    (λ c. search needs)
-    (λ c. search needs)
-    (λ c. search needs)
-    (λ c. search needs)
-    (λ c. search needs)
     (λ c. search needs)
     (λ c. search needs)
     (λ c κs. search needs)

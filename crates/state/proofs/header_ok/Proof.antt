@@ -1,14 +1,10 @@
 -- `state::header_ok` meets its contract: each refusal contradicts a fact of a header in order. Assumes nothing.
-use mathlib.Core.Path.{sym, _∙_}
+use mathlib.Core.Path.{sym}
 use native.Mathlib.Omega.{arith}
 use borrow.Author.Needs.{needs}
 use Rattle.state.proofs.Header.{refused, too-short, by-length}
 use Rattle.state.proofs.header_ok.Statement.{statement}
 use Rattle.state.proofs.header_ok.Tie as tie
-use Rattle.state.proofs.header_ok.Reads as reads
-use Rattle.state.proofs.header_ok.Lts as lts
-use Rattle.area.proofs.load_header.Reads as load-header-reads
-use Rattle.area.proofs.needed_length.Reads as needed-length-reads
 
 -- src/lib.rt:27:21
 mul-if1 : tie.Need-mul-if1

@@ -1,0 +1,36 @@
+-- `fit::office_sound` meets its contract: the arrays have the sizes of the limits. Assumes nothing.
+use borrow.Author.Needs.{needs}
+use Rattle.fit.proofs.office_sound.Statement.{statement}
+use Rattle.fit.proofs.office_sound.Tie as tie
+
+returns : tie.Need-returns
+returns c =
+    let t = c .before .before .before .before .before .before .before .before .before .before .before .before .before .sound in (
+      t .ensures .0,
+      λ h. record {
+        bindings = t .last .1 .0;
+        lines = t .last .1 .1 .0;
+        list = t .last .1 .1 .1 .1 .1 .0;
+        roots = t .last .1 .1 .1 .1 .1 .1 .0;
+        names = t .last .1 .1 .1 .1 .1 .1 .1 .0;
+        read = t .ensures .1 h;
+      },
+    )
+
+pub office-sound-spec : {M : Type 1} → statement M
+office-sound-spec =
+    tie.close
+    (tie.spec
+    (λ c. search needs)
+    (λ c. search needs)
+    (λ c. search needs)
+    (λ c. search needs)
+    (λ c. search needs)
+    (λ c. search needs)
+    (λ c. search needs)
+    (λ c. search needs)
+    (λ c. search needs)
+    (λ c κs. search needs)
+    (λ c. search needs)
+    (λ c. search needs)
+    returns)

@@ -143,7 +143,7 @@ fn office_sound(area: &[u8], rows: &mut [u32], entries: &mut [u32]) -> bool
     let mut rights = [0u32; PAIRS];
     let mut heads = [0u32; pairs::BUCKETS];
     let mut next = [0u32; PAIRS];
-    state::sound(
+    reading::sound(
         rows,
         &mut bindings,
         &mut lines,

@@ -16,9 +16,9 @@ use Rattle.sound.specs.Sound.{headerOk}
 use Rattle.sound.proofs.Tests.{header-facts}
 use Rattle.sound.proofs.Theorems.{sound-by-parts}
 use Rattle.area.specs.Held.{held}
 use Rattle.state.specs.Loading.{Sizes, headerOf}
 use Rattle.state.specs.Ready.{Read}
-use Rattle.state.proofs.Whole.{HeaderOf}
+use Rattle.reading.proofs.Whole.{HeaderOf}
 
 -- an area whose header is not in order is not sound
 pub header-refused : (lim : Limits) (area : List ℕ) → Modest lim → T (areBytes area) → headerOk lim area ≡ false → false ≡ sound lim area

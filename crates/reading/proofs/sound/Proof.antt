@@ -1,4 +1,4 @@
--- `state::sound` meets its contract. A header that is not in order decides; else the words are loaded and tested, and what one
+-- `reading::sound` meets its contract. A header that is not in order decides; else the words are loaded and tested, and what one
 -- test finds is what the next one asks. Assumes nothing.
 use mathlib.Core.Path.{_≡_, sym, _∙_}
 use mathlib.Core.Bool.{true}
@@ -20,12 +20,12 @@ use Rattle.sound.specs.Sound.{headerOk, rowsOk}
 use Rattle.entries.specs.Known.{Known}
 use Rattle.entries.proofs.Places.{room-kept}
 use Rattle.area.specs.Held.{held}
 use Rattle.state.specs.Ready.{Valued}
-use Rattle.state.proofs.Tested.{good-terms, table-known, rows-refused, cycle-refused, table-decides}
-use Rattle.state.proofs.Whole.{are-bytes, used, room-terms, room-entries, decides, area-read}
-use Rattle.state.proofs.Cut.{header-refused, header-within, cut-fits, cut-sizes, cut-length, cut-read}
-use Rattle.state.proofs.sound.Statement.{statement}
-use Rattle.state.proofs.sound.Tie as tie
+use Rattle.reading.proofs.Tested.{good-terms, table-known, rows-refused, cycle-refused, table-decides}
+use Rattle.reading.proofs.Whole.{are-bytes, used, room-terms, room-entries, decides, area-read}
+use Rattle.reading.proofs.Cut.{header-refused, header-within, cut-fits, cut-sizes, cut-length, cut-read}
+use Rattle.reading.proofs.sound.Statement.{statement}
+use Rattle.reading.proofs.sound.Tie as tie
 
 -- the area is one of bytes
 bytes-at : (a : tie.After-shared-slice-known) → T (areBytes (now (a .before .before .before .before .before .before .before .before .args .area)))

@@ -1,5 +1,5 @@
 -- From a loaded, sound state to what the functions of the pair table ask. Assumes nothing.
-use mathlib.Core.Path.{_≡_, _∙_}
+use mathlib.Core.Path.{_≡_}
 use mathlib.Core.List.{List, []}
 use Prim.Native.Nat.{ℕ, _*_, _≤_}
 use native.Mathlib.Omega.{arith}
@@ -18,6 +18,7 @@ use Rattle.rows.specs.RowTests.{entryRowsOk, zeroFrom}
 use Rattle.sound.proofs.Parts.{Holds}
 use Rattle.entries.specs.Known.{Named, Known, Room}
 use Rattle.entries.proofs.Loaded.{named-loaded, known-loaded}
+use Rattle.entries.proofs.Places.{room-kept}
 use Rattle.state.specs.Ready.{Valued, Ready}
 use Rattle.state.proofs.Tested.{front}
 use Rattle.table.specs.Stands.{HoldsTable, KnownNames, KnownTerms, Stands}
@@ -90,14 +91,7 @@ indexed-stands q done long room sizes =
       count = q .count;
       held = q .held;
       long = long;
-      room =
-          record {
-            all-heads = sizes .heads-size ∙ room .all-heads;
-            words = rw (sizes .left-size) (room .words);
-            lefts-fit = rw (sizes .left-size) (room .lefts-fit);
-            rights-fit = rw (sizes .right-size) (room .rights-fit);
-            next-fit = rw (sizes .next-size) (room .next-fit);
-          };
+      room = room-kept room (sizes .left-size) (sizes .right-size) (sizes .heads-size) (sizes .next-size);
       indexed = done .indexed;
       names = done .names;
     }

@@ -1,17 +1,14 @@
 -- What adding a line answers, test by test, and the words that an accepted line leaves. Assumes nothing.
-use mathlib.Core.Path.{_≡_, refl, sym, ap, _∙_}
-use mathlib.Core.List.{List, [], _∷_, _++_}
+use mathlib.Core.Path.{_≡_, refl, sym, _∙_}
+use mathlib.Core.List.{List, [], _∷_}
 use mathlib.Core.Bool.{true, false}
-use Prim.Native.Nat.{ℕ, suc, _+_, _*_, _≤_, _<_}
+use Prim.Native.Nat.{ℕ, _+_, _*_, _≤_, _<_}
 use native.Mathlib.Omega.{arith}
-use borrow.Author.Tests.{lt-ltb, le-ltb, le-leb, lt-leb, ltb-true, ltb-false}
+use borrow.Author.Tests.{lt-ltb, le-ltb, le-leb, lt-leb, ltb-true}
 use lib.ListN.{length, set, length-append, length-set}
 use Rattle.model.specs.Limits.{Limits}
-use Rattle.model.specs.Term.{Book, Bindings}
-use Rattle.model.specs.Table.{Table, entryOf, place, walk}
 use Rattle.model.specs.Step.{State, refused, accepted, require, saturate, addLine}
 use Rattle.model.specs.Area.{entryRowWords}
-use Rattle.theory.proofs.Soundness.Facts.{SoundFacts}
 use Rattle.theory.proofs.Steps.Answers.{line-entry, line-table, line-state}
 use Rattle.layout.specs.Rows.{Loaded, Sized, loadedState}
 use Rattle.area.specs.declared.Header.{Header}
@@ -20,12 +17,12 @@ use Rattle.sound.proofs.Parts.{Holds}
 use Rattle.entries.specs.Known.{Room}
 use Rattle.state.specs.Ready.{Ready}
 use Rattle.state.proofs.Uses.{ready-facts, ready-sized, ready-holds}
-use Rattle.table.specs.Stands.{HoldsTable, Stands, GivenTable, Whatever}
+use Rattle.table.specs.Stands.{HoldsTable, GivenTable, Whatever}
 use Rattle.table.specs.declared.Placed.{Placed}
 use Rattle.table.proofs.Lists.{padded-set}
 use Rattle.table.proofs.Placing.{few-entries}
 use Rattle.steps.specs.declared.Stepped.{Stepped}
-use Rattle.steps.specs.Stepped.{Leaves, Gives}
+use Rattle.steps.specs.Stepped.{Leaves}
 use Rattle.steps.proofs.Tables.{ready-known, to-index}
 use Rattle.steps.proofs.Leaving.{table-words, leaves, gives-refused, gives-accepted}
 use Rattle.adding.specs.Adding.{ToGrow, IsGrown, GivenState, AddsLine}

@@ -1,10 +1,9 @@
 -- What the tests of a loaded state give to each other: rows in order hold terms that obey the rules, and with the terms' values
 -- known the table can be tested. Assumes nothing.
-use mathlib.Core.Path.{_≡_, sym, ap, _∙_}
-use mathlib.Core.List.{List, _++_}
+use mathlib.Core.Path.{_≡_}
+use mathlib.Core.List.{List}
 use mathlib.Core.Bool.{Bool, true, false, _&&_}
 use Prim.Native.Nat.{ℕ}
-use lib.ListN.{take, drop, take-append-drop}
 use lib.Dec.{T}
 use Rattle.model.specs.Lists.{all}
 use Rattle.model.specs.Term.{acyclic}
@@ -20,6 +19,7 @@ use Rattle.entries.specs.Known.{Known}
 use Rattle.entries.proofs.Loaded.{named-loaded, known-loaded}
 use Rattle.state.specs.Loading.{Used}
 use Rattle.state.specs.Ready.{Valued}
+use Rattle.state.proofs.Values.{front}
 
 module _ (w : Loaded) (used : Used w) (rows-ok : T (rowsOk w)) where
   -- rows in order hold terms that obey the rules
@@ -39,10 +39,6 @@ module _ (w : Loaded) (used : Used w) (rows-ok : T (rowsOk w)) where
   entry-rows =
       and₄ (termRowsOk (w .termRows) (w .terms)) (bindingsOk (w .termRows) (w .bindingWords) (w .terms)) (linesOk (w .lineWords) (w .lines) (w .entries))
       (entryRowsOk (w .entryRows) (w .entries) (w .terms)) .0 rows-ok .3
-
--- a list whose first n words are known
-pub front : (n : ℕ) (xs ys : List ℕ) → take n xs ≡ ys → xs ≡ ys ++ drop n xs
-front n xs ys e = sym (take-append-drop n xs) ∙ ap (λ zs. zs ++ drop n xs) e
 
 -- with the values of the terms, what is asked to test the table
 pub table-known : (w : Loaded) → Used w → T (rowsOk w) → {list roots names : List ℕ} → Valued (w .termRows) (w .bindingWords) list roots names (w .terms)

@@ -1,9 +1,9 @@
 -- The values of the terms: the list, what each stands for, and its name. Assumes nothing.
-use mathlib.Core.Path.{_≡_, sym, _∙_}
+use mathlib.Core.Path.{_≡_, sym, ap, _∙_}
 use mathlib.Core.List.{List, _++_, map}
 use mathlib.Core.Bool.{Bool, true}
 use Prim.Native.Nat.{ℕ}
-use lib.ListN.{take}
+use lib.ListN.{take, drop, take-append-drop}
 use lib.Seq.{take-at}
 use Rattle.model.specs.Lists.{from}
 use Rattle.model.specs.Term.{deref, name, acyclic}
@@ -13,6 +13,10 @@ use Rattle.layout.specs.Rows.{bookOf, boundOf, GoodTerms}
 use Rattle.order.specs.Order.{Ordered}
 use Rattle.values.specs.Reading.{Listed}
 use Rattle.state.specs.Ready.{Valued}
+
+-- a list whose first n words are known
+pub front : (n : ℕ) (xs ys : List ℕ) → take n xs ≡ ys → xs ≡ ys ++ drop n xs
+front n xs ys e = sym (take-append-drop n xs) ∙ ap (λ zs. zs ++ drop n xs) e
 
 -- the first n of what was written over them
 take-written : (f : ℕ → ℕ) (n : ℕ) (xs rest : List ℕ) → xs ≡ map f (from 0 n) ++ rest → take n xs ≡ map f (from 0 n)

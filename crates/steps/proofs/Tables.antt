@@ -20,7 +20,7 @@ use Rattle.entries.specs.Known.{Room}
 use Rattle.entries.proofs.Loaded.{named-loaded, known-loaded}
 use Rattle.entries.proofs.Places.{room-kept}
 use Rattle.state.specs.Ready.{Valued, Ready}
-use Rattle.state.proofs.Tested.{front}
+use Rattle.state.proofs.Values.{front}
 use Rattle.table.specs.Stands.{HoldsTable, KnownNames, KnownTerms, Stands}
 use Rattle.table.proofs.Sizes.{SameSizes}
 use Rattle.saturate.specs.Steps.{ToIndex, IsIndexed}

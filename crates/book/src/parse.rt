@@ -1,5 +1,6 @@
-// Decoding a book, part by part: a number, a term's arguments, a term, all terms. Each part starts at a position of the
-// bytes and gives the position after it, or a refusal (specs/Parts.antt).
+// Decoding a book, part by part and in document 01's order: in a term symbol (4), count (4), rule 6, arguments (5); then all
+// terms. Each part starts at a position of the bytes and gives the position after it, or a refusal (specs/Parts.antt). Its
+// numbers are read through a reader (reader.rt).
 
 ghost use mathlib.Core.Path.{_≡_};
 ghost use mathlib.Core.List.{[]};

@@ -1,15 +1,15 @@
-// The numbers of a book, each read at the position of a reader (document 01, "The shape of each place"). A function over the
-// reader is proved by a walk of its code, by hand, so there are few: `new` makes one, `number` takes it apart, and
-// `read_below`, on a slice and a position, is what the parts of decoding call (parse.rt).
+// The numbers of a book, each read by a reader at its position (document 01, "The shape of each place"). What takes or makes a
+// reader is proved by a walk of its code, by hand, so it is little, and stays in this file: `new`, `number`, and above them
+// `read_below`, which all of decoding calls with a slice and a position (parse.rt, lib.rt).
 
 ghost use mathlib.Core.Path.{_≡_};
 ghost use lib.ListN.{drop};
 ghost use Rattle.book.specs.Parts.{parseBelow, partOf, unread};
 
 // A book's bytes and the position that is read next.
-pub struct Reader<'a> {
-    pub src: &'a [u8],
-    pub at: usize,
+struct Reader<'a> {
+    src: &'a [u8],
+    at: usize,
 }
 
 // A number and the position after it, or a refusal.
@@ -18,7 +18,7 @@ pub enum Part {
     Refused(u32),
 }
 
-// The number at position `at`: it is below `limit`, else the refusal `refusal`.
+// The work: the number at position `at` is below `limit`, else the refusal `refusal`.
 fn number_at(bytes: &[u8], at: usize, limit: u32, refusal: u32) -> Part
     ensures { λ r. ⌜ parseBelow limit refusal (drop at (now (bytes .entry))) ≡ partOf (now (bytes .entry)) r ⌝ }
 {
@@ -36,22 +36,22 @@ fn number_at(bytes: &[u8], at: usize, limit: u32, refusal: u32) -> Part
 }
 
 // A reader of `src` at position `at`.
-pub fn new<'a>(src: &'a [u8], at: usize) -> Reader<'a>
+fn new<'a>(src: &'a [u8], at: usize) -> Reader<'a>
     ensures { λ r. ⌜ (r .src ≡ src .entry) × (r .at ≡ at) ⌝ }
 {
     Reader { src, at }
 }
 
-// The number that the reader stands at, as `number_at`.
-pub fn number<'a>(r: Reader<'a>, limit: u32, refusal: u32) -> Part
+// The number at the reader's position.
+fn number<'a>(r: Reader<'a>, limit: u32, refusal: u32) -> Part
     ensures { λ p. ⌜ parseBelow limit refusal (unread (r .entry)) ≡ partOf (now (r .entry .src)) p ⌝ }
 {
     number_at(r.src, r.at, limit, refusal)
 }
 
-// The number at position `at`, through a reader.
+// The number at position `at`, through a reader: it is below `limit`, else the refusal `refusal`.
 pub fn read_below(bytes: &[u8], at: usize, limit: u32, refusal: u32) -> Part
-    ensures { λ r. ⌜ parseBelow limit refusal (drop at (now (bytes .entry))) ≡ partOf (now (bytes .entry)) r ⌝ }
+    ensures { λ p. ⌜ parseBelow limit refusal (drop at (now (bytes .entry))) ≡ partOf (now (bytes .entry)) p ⌝ }
 {
     number(new(bytes, at), limit, refusal)
 }

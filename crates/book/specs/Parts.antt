@@ -11,9 +11,11 @@ use Rattle.model.specs.Term.{Node, var, app, Book}
 use Rattle.model.specs.BookBytes.{Parsed, parsed, unparsed, andThen, need, parseNumber, parseArguments}
 use Rattle.model.specs.Area.{termWords}
 use Rattle.layout.specs.Counts.{fitsEntry, noted, Suits}
+use denote.Ref.{now}
 use Rattle.book.specs.Rows.{bookRows}
-use Rattle.book.specs.declared.parse.Part.{Part}
-use Rattle.book.specs.declared.parse.Part.the-variants.{Value, Refused as NoPart}
+use Rattle.book.specs.declared.reader.Part.{Part}
+use Rattle.book.specs.declared.reader.Part.the-variants.{Value, Refused as NoPart}
+use Rattle.book.specs.declared.reader.Reader.{Reader}
 use Rattle.book.specs.declared.parse.Step.{Step}
 use Rattle.book.specs.declared.parse.Step.the-variants.{Next, Refused as NoStep}
 
@@ -40,6 +42,10 @@ parseTerm counts t bytes = andThen (parseBelow (suc (suc maxSymbol)) 4 bytes) (�
 unfoldable pub rowNumbers : Node → List ℕ
 rowNumbers var = []
 rowNumbers (app s args) = suc s ∷ length args ∷ args
+
+-- The bytes that a reader has yet to read: those from its position on.
+abbrev pub unread : Reader → List ℕ
+unread r = drop (r .at) (now (r .src))
 
 -- The outcome that a reader of a number answers.
 abbrev pub partOf : List ℕ → Part → Parsed ℕ

@@ -1,6 +1,7 @@
 // A book's bytes into term rows, and term rows into bytes (specs/Rows.antt; docs/SPEC.md, "Bytes").
 
 mod parse;
+mod reader;
 mod write;
 
 ghost use mathlib.Core.Path.{_≡_};
@@ -14,8 +15,8 @@ ghost use Rattle.theory.specs.Modest.{Modest};
 ghost use Rattle.layout.specs.Limits.{limitsOf};
 ghost use Rattle.layout.specs.Rows.{bookOf};
 ghost use Rattle.book.specs.Rows.{bookRows, encodable, refusalOf, decodedBook};
-use parse::Part;
 use parse::Step;
+use reader::Part;
 
 // What decoding answers: 0 or the refusal, and the number of terms.
 pub struct Decoding {
@@ -31,7 +32,7 @@ pub fn decode(bytes: &[u8], lim: layout::Limits, rows: &mut [u32]) -> Decoding
     ensures terms { λ r. ⌜ r .terms ≡ length (decodedBook (parseBook (limitsOf lim) (now (bytes .entry)))) ⌝ }
     ensures rows { λ r. ⌜ (r .refusal ≡ 0 → now (rows .exit) ≡ bookRows (termWords * lim .terms) (decodedBook (parseBook (limitsOf lim) (now (bytes .entry))))) ⌝ }
 {
-    match parse::read_below(bytes, 0, lim.terms as u32 + 1, 4) {
+    match reader::read_below(bytes, 0, lim.terms as u32 + 1, 4) {
         Part::Refused(n) => Decoding {
             refusal: n,
             terms: 0,

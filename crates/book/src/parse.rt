@@ -1,5 +1,6 @@
-// Decoding a book, part by part: a number, a term's arguments, a term, all terms. Each part starts at a position of the
-// bytes and gives the position after it, or a refusal (specs/Parts.antt).
+// Decoding a book, part by part and in document 01's order: in a term symbol (4), count (4), rule 6, arguments (5); then all
+// terms. Each part starts at a position of the bytes and gives the position after it, or a refusal (specs/Parts.antt). Its
+// numbers are read through a reader (reader.rt).
 
 ghost use mathlib.Core.Path.{_≡_};
 ghost use mathlib.Core.List.{[]};
@@ -8,40 +9,19 @@ ghost use lib.ListN.{length, drop, replicate};
 ghost use Rattle.model.specs.Limits.{maxArity, maxSymbol};
 ghost use Rattle.model.specs.Area.{termWords};
 ghost use Rattle.model.specs.BookBytes.{parseArguments, parseTerms};
-ghost use Rattle.book.specs.Parts.{parseBelow, parseCounted, parseTerm, partOf, StepOf, ArgumentsIn, TermIn, BookIn};
+ghost use Rattle.book.specs.Parts.{parseCounted, parseTerm, StepOf, ArgumentsIn, TermIn, BookIn};
+use crate::reader::Part;
+use crate::reader::read_below;
 
 // A count of arguments, and a term's first number (0, or its symbol plus 1), are below these.
 const COUNTS: u32 = layout::MAX_ARITY as u32 + 1;
 
 const FIRST_NUMBERS: u32 = layout::SYMBOLS as u32 + 1;
 
-// A number and the position after it, or a refusal.
-pub enum Part {
-    Value { value: u32, next: usize },
-    Refused(u32),
-}
-
 // The position after a part whose contents went into the rows, or a refusal.
 pub enum Step {
     Next(usize),
     Refused(u32),
-}
-
-// The number at position `at`: it is below `limit`, else the refusal `refusal`.
-pub fn read_below(bytes: &[u8], at: usize, limit: u32, refusal: u32) -> Part
-    ensures { λ r. ⌜ parseBelow limit refusal (drop at (now (bytes .entry))) ≡ partOf (now (bytes .entry)) r ⌝ }
-{
-    match leb128::read(bytes, at) {
-        leb128::Decoded::Number { value, next } => {
-            if value < limit {
-                Part::Value { value, next }
-            } else {
-                Part::Refused(refusal)
-            }
-        }
-        leb128::Decoded::Cut => Part::Refused(1),
-        leb128::Decoded::Invalid => Part::Refused(2),
-    }
 }
 
 // The `count` arguments of term `t`, into its row.

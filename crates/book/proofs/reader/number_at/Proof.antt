@@ -1,10 +1,10 @@
--- `book::parse::read_below` meets its contract: what the reader of numbers answers is the model's outcome, and the test
+-- `book::reader::number_at` meets its contract: what the reader of numbers answers is the model's outcome, and the test
 -- compares with the limit. Assumes nothing.
 use borrow.Author.Needs.{needs}
 use denote.Ref.{now}
 use Rattle.book.proofs.Parsing.{number-answered, below-held, below-broken, below-refused}
-use Rattle.book.proofs.parse.read_below.Statement.{statement}
-use Rattle.book.proofs.parse.read_below.Tie as tie
+use Rattle.book.proofs.reader.number_at.Statement.{statement}
+use Rattle.book.proofs.reader.number_at.Tie as tie
 
 read-requires : tie.Need-read-requires
 read-requires c κs = search needs
@@ -40,8 +40,8 @@ returns-4 c =
     let a = c .before .before .before .before .args in
     below-refused _ _ _ _ (number-answered (now (a .bytes)) (a .at) (c .before .before .read .ensures .0) (c .enum-told2 .given .1))
 
-pub read-below-spec : {M : Type 1} → statement M
-read-below-spec =
+pub number-at-spec : {M : Type 1} → statement M
+number-at-spec =
     tie.close
     (tie.spec
     read-requires

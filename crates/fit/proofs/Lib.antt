@@ -1,4 +1,3 @@
-pub mod Opened
 pub mod OpenCases
 pub mod BookHeld
 pub mod Copied

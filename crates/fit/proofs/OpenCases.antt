@@ -16,9 +16,9 @@ use Rattle.model.specs.Call.{refuse, accept, guard, over, emit, openParsed, cal
 use Rattle.theory.proofs.Book.Round.{parsed-formed}
 use Rattle.theory.proofs.Book.Opening.{Positive, book-positive}
 use Rattle.book.specs.Rows.{bookRows, refusalOf, decodedBook}
-use Rattle.fit.specs.Opened.{openedWords}
+use Rattle.store.specs.Opened.{openedWords}
 use Rattle.fit.specs.Offered.{neededLength}
-use Rattle.fit.proofs.Opened.{opened-words}
+use Rattle.store.proofs.JustOpened.{opened-words}
 
 -- THE CAPACITY. Whether it lies in its range, by the outcome of two tests.
 abbrev pub inRange : ℕ → Bool

@@ -2,19 +2,14 @@
 
 ghost use mathlib.Core.Path.{_≡_};
 ghost use mathlib.Core.List.{[], _∷_};
-ghost use Prim.Native.Nat.{_*_, _≤_};
+ghost use Prim.Native.Nat.{_≤_};
 ghost use lib.ListN.{length};
 ghost use Rattle.model.specs.Limits.{office};
-ghost use Rattle.model.specs.Lists.{concatMap};
-ghost use Rattle.model.specs.Area.{wordSize, termWords, toBytes, areaLength};
-ghost use Rattle.model.specs.Call.{over, emit, callOpen, callCopy, callEntry, callReport, callWrite};
+ghost use Rattle.model.specs.Call.{emit, callOpen, callCopy, callEntry, callReport, callWrite};
 ghost use Rattle.model.specs.BookBytes.{bookBytes};
 ghost use Rattle.layout.specs.Rows.{bookOf};
 ghost use Rattle.book.specs.Rows.{encodable};
 ghost use lib.Dec.{T};
-ghost use Rattle.theory.specs.Modest.{Modest};
-ghost use Rattle.layout.specs.Limits.{limitsOf};
-ghost use Rattle.fit.specs.Opened.{openedWords};
 ghost use Rattle.fit.specs.Offered.{neededLength};
 
 // The words before the entries of a report with the most lines: how many lines, each line's entry, how many entries.
@@ -55,31 +50,8 @@ pub extern "C" fn fit_open(capacity: u32, book: &[u8], area: &mut [u8]) -> u32
         return refusal;
     }
     let terms = decoded.terms;
-    write_opened(area, layout::OFFICE, capacity, terms, needed, &rows);
+    store::opened(area, layout::OFFICE, capacity, terms, needed, &rows);
     0
-}
-
-// Writes an area just opened: the header, the term rows, and zeros up to the needed length.
-fn write_opened(
-    area: &mut [u8],
-    lim: layout::Limits,
-    capacity: u32,
-    terms: u32,
-    needed: usize,
-    rows: &[u32],
-)
-    requires { ⌜ Modest (limitsOf lim) × (needed ≡ areaLength (limitsOf lim) capacity) × (needed ≤ length (now area)) × (length (now rows) ≡ termWords * lim .terms) ⌝ }
-    ensures { λ _. ⌜ now (area .exit) ≡ over (concatMap (toBytes wordSize) (openedWords (limitsOf lim) capacity terms (now (rows .entry)))) (now (area .entry)) ⌝ }
-{
-    let header = area::Header {
-        capacity,
-        terms,
-        entries: 0,
-        lines: 0,
-    };
-    area::store_header(area, header);
-    words::store(area, layout::HEADER_WORDS, rows);
-    words::clear(area, layout::WORD_BYTES * area::bindings_at(lim), needed);
 }
 
 // A refusal of a call that answers one number, which is 0 then.

@@ -1,15 +1,16 @@
-// A state stored into an area: its header and the words of each part.
+// A state stored into an area: its header and the words of each part; and a book just opened.
 
 ghost use mathlib.Core.Path.{_≡_};
-ghost use Prim.Native.Nat.{_≤_};
+ghost use Prim.Native.Nat.{_*_, _≤_};
 ghost use lib.ListN.{length};
 ghost use Rattle.model.specs.Lists.{concatMap};
-ghost use Rattle.model.specs.Area.{wordSize, toBytes, areaLength};
+ghost use Rattle.model.specs.Area.{wordSize, termWords, toBytes, areaLength};
 ghost use Rattle.model.specs.Call.{over};
 ghost use Rattle.theory.specs.Modest.{Modest};
 ghost use Rattle.layout.specs.Limits.{limitsOf};
 ghost use Rattle.layout.specs.Rows.{Sized, loadedWords};
 ghost use Rattle.area.specs.Held.{held};
+ghost use Rattle.store.specs.Opened.{openedWords};
 
 // Writes the needed length of an area; what lies beyond it stays.
 pub fn store(
@@ -31,4 +32,27 @@ pub fn store(
     words::store(area, area::bindings_at(lim), bindings);
     words::store(area, area::lines_at(lim), lines);
     words::store(area, area::entries_at(lim), entries);
+}
+
+// Writes an area just opened: the header, the term rows, and zeros up to the needed length.
+pub fn opened(
+    area: &mut [u8],
+    lim: layout::Limits,
+    capacity: u32,
+    terms: u32,
+    needed: usize,
+    rows: &[u32],
+)
+    requires { ⌜ Modest (limitsOf lim) × (needed ≡ areaLength (limitsOf lim) capacity) × (needed ≤ length (now area)) × (length (now rows) ≡ termWords * lim .terms) ⌝ }
+    ensures { λ _. ⌜ now (area .exit) ≡ over (concatMap (toBytes wordSize) (openedWords (limitsOf lim) capacity terms (now (rows .entry)))) (now (area .entry)) ⌝ }
+{
+    let header = area::Header {
+        capacity,
+        terms,
+        entries: 0,
+        lines: 0,
+    };
+    area::store_header(area, header);
+    words::store(area, layout::HEADER_WORDS, rows);
+    words::clear(area, layout::WORD_BYTES * area::bindings_at(lim), needed);
 }

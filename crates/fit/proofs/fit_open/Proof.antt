@@ -11,7 +11,7 @@ use Rattle.model.specs.Area.{wordSize, termWords, toBytes, areaLength}
 use Rattle.model.specs.Call.{refuse, accept, over}
 use Rattle.model.specs.BookBytes.{parseBook}
 use Rattle.book.specs.Rows.{bookRows, decodedBook}
-use Rattle.fit.specs.Opened.{openedWords}
+use Rattle.store.specs.Opened.{openedWords}
 use Rattle.fit.proofs.OpenCases.{inRange, length-of, none-out-of-range, some-in-range, open-four, open-seven, open-refused, open-accepted}
 use Rattle.fit.proofs.fit_open.Statement.{statement}
 use Rattle.fit.proofs.fit_open.Tie as tie
@@ -64,11 +64,11 @@ returns-3 c =
     (λ z. c .if3 .taken (refusal ∙ z)) in
     (refusal ∙ sym (ap (λ o. o .refusal) e), sym (ap (λ o. o .area) e))
 
-slice-aggregate-write-opened : tie.Need-slice-aggregate-write-opened
-slice-aggregate-write-opened c = search needs
+slice-aggregate-opened : tie.Need-slice-aggregate-opened
+slice-aggregate-opened c = search needs
 
-write-opened-requires : tie.Need-write-opened-requires
-write-opened-requires c κs =
+opened-requires : tie.Need-opened-requires
+opened-requires c κs =
     let long = c .before .before .before .before .before .before in
     (search needs, needed (long .before), long .if2 .left, search needs)
 
@@ -90,7 +90,7 @@ returns-4 c =
     let rowed : read .last .1 .1 .0 ≡ bookRows (termWords * office .maxTerms) book = read .ensures .1 .1 (accepted .if3 .left) in
     let words = ap₂ (λ terms rows. over (concatMap (toBytes wordSize) (openedWords office (s .args .capacity) terms rows)) (now (s .args .area)))
     counted rowed in
-    (sym (ap (λ o. o .refusal) e), opened .write-opened .ensures ∙ words ∙ sym (ap (λ o. o .area) e))
+    (sym (ap (λ o. o .refusal) e), opened .opened .ensures ∙ words ∙ sym (ap (λ o. o .area) e))
 
 pub fit-open-spec : {M : Type 1} → statement M
 fit-open-spec =
@@ -101,6 +101,6 @@ fit-open-spec =
     returns-2
     slice-aggregate-decode decode-requires
     returns-3
-    slice-aggregate-write-opened write-opened-requires
+    slice-aggregate-opened opened-requires
     same-length
     returns-4)

@@ -18,7 +18,7 @@ use Rattle.theory.proofs.Lists.Laws.{concatMap-append}
 use Rattle.theory.proofs.Area.Words.{length-words}
 use Rattle.words.specs.Words.{laid, cleared}
 use Rattle.words.proofs.Behind.{drop-behind, laid-behind}
-use Rattle.fit.specs.Opened.{openedWords}
+use Rattle.store.specs.Opened.{openedWords}
 
 -- words of zero are bytes of zero
 zero-bytes : (n : ℕ) → concatMap (toBytes wordSize) (replicate n 0) ≡ replicate (wordSize * n) 0

@@ -1,4 +1,4 @@
--- `fit::write_opened` meets its contract: three writes, of the header, of the rows and of zeros. Assumes nothing.
+-- `store::opened` meets its contract: three writes, of the header, of the rows and of zeros. Assumes nothing.
 use mathlib.Core.Path.{ap, _∙_}
 use Prim.Native.Nat.{_*_}
 use borrow.Author.Needs.{needs}
@@ -8,9 +8,9 @@ use Rattle.model.specs.Area.{wordSize, headerWords, areaLength}
 use Rattle.layout.specs.Limits.{limitsOf}
 use Rattle.area.specs.Row.{wordsOf}
 use Rattle.words.specs.Words.{laid}
-use Rattle.fit.proofs.Opened.{laid-opened}
-use Rattle.fit.proofs.write_opened.Statement.{statement}
-use Rattle.fit.proofs.write_opened.Tie as tie
+use Rattle.store.proofs.JustOpened.{laid-opened}
+use Rattle.store.proofs.opened.Statement.{statement}
+use Rattle.store.proofs.opened.Tie as tie
 
 store-header-requires : tie.Need-store-header-requires
 unfolding areaLength
@@ -47,6 +47,6 @@ returns c =
     c .before .before .clear .ensures ∙ rw (parts, start, s .pre .1)
     (laid-opened (limitsOf (s .args .lim)) (s .args .capacity) (s .args .terms) rows (now (s .args .area)) (s .pre .3))
 
-pub write-opened-spec : {M : Type 1} → statement M
-write-opened-spec =
+pub opened-spec : {M : Type 1} → statement M
+opened-spec =
     tie.close (tie.spec store-header-requires store-requires bindings-at-requires mul-clear clear-requires same-length returns)

@@ -5,6 +5,7 @@ use mathlib.Core.Bool.{true, false}
 use Prim.Native.Nat.{ℕ, _+_, _*_, _≤_, _<_}
 use native.Mathlib.Omega.{arith}
 use borrow.Author.Tests.{lt-ltb, le-ltb, le-leb, lt-leb, ltb-true}
+use lib.Dec.{leb}
 use lib.ListN.{length, set, length-append, length-set}
 use Rattle.model.specs.Limits.{Limits}
 use Rattle.model.specs.Step.{State, refused, accepted, require, saturate, addLine}
@@ -44,25 +45,22 @@ module _ (lim : Limits) (s : State) (l r : ℕ) where
       no-line h = rw (lt-ltb l (length (s .book)) left, lt-ltb r (length (s .book)) right, le-ltb (length (s .lines)) (lim .maxLines) h)
 
       module _ (room : length (s .lines) < lim .maxLines) where
-        no-entries : s .capacity < length (line-table s l r) → addLine lim s l r ≡ refused 11
+        past : addLine lim s l r ≡ require (leb (length (line-table s l r)) (s .capacity)) 11 (accepted (line-entry s l r ∷ []) (line-state s l r))
         unfolding addLine require saturate
-        no-entries h =
+        past =
             rw (
               lt-ltb l (length (s .book)) left,
               lt-ltb r (length (s .book)) right,
               lt-ltb (length (s .lines)) (lim .maxLines) room,
-              lt-leb (length (line-table s l r)) (s .capacity) h,
             )
 
+        no-entries : s .capacity < length (line-table s l r) → addLine lim s l r ≡ refused 11
+        unfolding require
+        no-entries h = past ∙ rw (lt-leb (length (line-table s l r)) (s .capacity) h)
+
         taken : length (line-table s l r) ≤ s .capacity → addLine lim s l r ≡ accepted (line-entry s l r ∷ []) (line-state s l r)
-        unfolding addLine require saturate
-        taken h =
-            rw (
-              lt-ltb l (length (s .book)) left,
-              lt-ltb r (length (s .book)) right,
-              lt-ltb (length (s .lines)) (lim .maxLines) room,
-              le-leb (length (line-table s l r)) (s .capacity) h,
-            )
+        unfolding require
+        taken h = past ∙ rw (le-leb (length (line-table s l r)) (s .capacity) h)
 
 -- the words after an accepted line, part by part
 line-leaves : {lim : Limits} {w : Loaded} {s : State} → Sized lim w → Holds lim w s → (l r i m : ℕ) {entries : List ℕ} → length (s .lines) < lim .maxLines

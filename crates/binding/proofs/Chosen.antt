@@ -20,6 +20,7 @@ use Rattle.layout.specs.Rows.{Loaded, bookOf, boundOf, tableOf, loadedState, Go
 use Rattle.layout.proofs.Rows.{length-bookOf, length-tableOf}
 use Rattle.area.specs.declared.Header.{Header}
 use Rattle.area.specs.Held.{held}
+use Rattle.values.specs.Reading.{Listed}
 use Rattle.names.proofs.Lowest.{scratch-kept}
 use Rattle.sound.proofs.Tests.{row-facts}
 use Rattle.entries.proofs.Places.{room-kept}
@@ -33,6 +34,12 @@ use Rattle.steps.proofs.Leaving.{table-words, leaves, gives-refused, gives-acce
 use Rattle.binding.specs.Choice.{Asked, earlyRefusal, walkedAnswer, IsSettled, ToRebuild}
 use Rattle.binding.proofs.Tests.{choice-numbers, Passed, passed, bind-tests}
 use Rattle.binding.proofs.Words.{bound-set, words-set}
+
+-- what the tests before the walk ask; the links are the scratch
+pub tests-ask : {h : Header} {rows bindings list roots names entries lefts rights heads next : List ℕ} {lim : Limits} {lines : List ℕ}
+    → Asked h rows bindings list roots names entries lefts rights heads next lim lines → Listed rows bindings list (h .terms) × (h .terms ≤ length next)
+tests-ask a =
+    (a .ready .valued .listed, omega (arith, a .ready .used .bindings-fit, a .ready .sizes .bindings-size, a .lent .for-terms .scratch .room .links))
 
 module _ {h : Header} {rows bindings list roots names entries lefts rights heads next : List ℕ} {lim : Limits} {lines : List ℕ}
     (a : Asked h rows bindings list roots names entries lefts rights heads next lim lines) (v t : ℕ) {r : ℕ}

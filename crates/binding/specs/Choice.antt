@@ -25,7 +25,7 @@ pub record Asked (h : Header) (rows bindings list roots names entries lefts righ
   pub ready : Ready lim (held h rows bindings lines entries) list roots names
   pub lent : Lent lim list roots names lefts rights heads next
 
--- Something is known for some limits and lines.
+-- Something is known for some limits and some lines.
 pub record Given (P : Limits → List ℕ → Type 0) : Type 0 where
   pub lim : Limits
   pub lines : List ℕ

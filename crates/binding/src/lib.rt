@@ -18,7 +18,7 @@ ghost use Rattle.binding.specs.Choice.{Asked, Given, earlyRefusal, IsSet
 use area::Header;
 use steps::Stepped;
 
-// Whether term `v` is a free variable.
+// Whether the term `v` is a free variable.
 fn is_free(rows: &[u32], bindings: &[u32], v: u32) -> bool
     requires { ⌜ (termWords * v + 1 ≤ length (now rows)) × (v < length (now bindings)) ⌝ }
     ensures { λ r. ⌜ r ≡ isFree (nodeOf (now (rows .entry)) v) (bindingOf (now (bindings .entry)) v) ⌝ }
@@ -65,34 +65,23 @@ fn walk_and_settle(
     roots: &[u32],
     names: &[u32],
     entries: &mut [u32],
-    lefts: &mut [u32],
-    rights: &mut [u32],
+    ls: &mut [u32],
+    rs: &mut [u32],
     heads: &mut [u32],
     next: &mut [u32],
 ) -> Stepped
-    requires { ⌜ GivenTable (ToWalk (now rows) (now roots) (now names) (now entries) (now lefts) (now rights) (now heads) (now next) (h .capacity) (h .entries)) ⌝ }
-    ensures { λ s. ⌜ Whatever (ToWalk (now (rows .entry)) (now (roots .entry)) (now (names .entry)) (now (entries .entry)) (now (lefts .entry)) (now (rights .entry)) (now (heads .entry)) (now (next .entry)) (h .capacity) (h .entries))
+    requires { ⌜ GivenTable (ToWalk (now rows) (now roots) (now names) (now entries) (now ls) (now rs) (now heads) (now next) (h .capacity) (h .entries)) ⌝ }
+    ensures { λ s. ⌜ Whatever (ToWalk (now (rows .entry)) (now (roots .entry)) (now (names .entry)) (now (entries .entry)) (now (ls .entry)) (now (rs .entry)) (now (heads .entry)) (now (next .entry)) (h .capacity) (h .entries))
         (IsSettled h (now (entries .exit)) s) ⌝ }
 {
-    let capacity = h.capacity as usize;
+    let cap = h.capacity as usize;
     let m = h.entries as usize;
-    let w = saturate::walk(
-        rows,
-        roots,
-        names,
-        entries,
-        capacity,
-        m,
-        lefts,
-        rights,
-        heads,
-        next,
-    );
+    let w = saturate::walk(rows, roots, names, entries, cap, m, ls, rs, heads, next);
     if w.full {
         return steps::refused(11);
     }
     let count = w.count;
-    saturate::settle(entries, count, lefts, rights, heads, next);
+    saturate::settle(entries, count, ls, rs, heads, next);
     Stepped {
         refusal: 0,
         first: w.turned as u32,
@@ -112,36 +101,25 @@ fn rebuild(
     roots: &mut [u32],
     names: &mut [u32],
     entries: &mut [u32],
-    lefts: &mut [u32],
-    rights: &mut [u32],
+    ls: &mut [u32],
+    rs: &mut [u32],
     heads: &mut [u32],
     next: &mut [u32],
 ) -> Stepped
-    requires { ⌜ ToRebuild h (now rows) (now bindings) (now list) (now roots) (now names) (now entries) (now lefts) (now rights) (now heads) (now next) ⌝ }
+    requires { ⌜ ToRebuild h (now rows) (now bindings) (now list) (now roots) (now names) (now entries) (now ls) (now rs) (now heads) (now next) ⌝ }
     ensures { λ s. ⌜ IsSettled h (now (entries .exit)) s (bookOf (now (rows .entry)) (h .terms)) (boundOf (now (bindings .entry)) (h .terms)) (tableOf (now (entries .entry)) (h .entries)) ⌝ }
 {
     let n = h.terms;
-    if !state::name_terms(
-        n,
-        list,
-        bindings,
-        roots,
-        names,
-        lefts,
-        rows,
-        rights,
-        heads,
-        next,
-    ) {
+    if !state::name_terms(n, list, bindings, roots, names, ls, rows, rs, heads, next) {
         return steps::refused(10);
     }
     let m = h.entries as usize;
-    saturate::index(names, entries, lefts, rights, heads, next, m);
-    walk_and_settle(h, rows, roots, names, entries, lefts, rights, heads, next)
+    saturate::index(names, entries, ls, rs, heads, next, m);
+    walk_and_settle(h, rows, roots, names, entries, ls, rs, heads, next)
 }
 
 // Binds the variable `v` to the term `t`: 8, 9, 10, 11, or how many entries turned and how many were appended. Where it is
-// refused, what the slices hold is left free; `lefts`, `rights`, `heads` and `next` are scratch.
+// refused, what the slices hold is left free; `ls`, `rs`, `heads` and `next` are scratch.
 pub fn bind(
     h: Header,
     rows: &[u32],
@@ -152,14 +130,14 @@ pub fn bind(
     entries: &mut [u32],
     v: u32,
     t: u32,
-    lefts: &mut [u32],
-    rights: &mut [u32],
+    ls: &mut [u32],
+    rs: &mut [u32],
     heads: &mut [u32],
     next: &mut [u32],
 ) -> Stepped
-    requires { ⌜ Given (Asked h (now rows) (now bindings) (now list) (now roots) (now names) (now entries) (now lefts) (now rights) (now heads) (now next)) ⌝ }
+    requires { ⌜ Given (Asked h (now rows) (now bindings) (now list) (now roots) (now names) (now entries) (now ls) (now rs) (now heads) (now next)) ⌝ }
     ensures { λ s. ⌜ ((lim : Limits) (lines : List ℕ)
-        → Asked h (now (rows .entry)) (now (bindings .entry)) (now (list .entry)) (now (roots .entry)) (now (names .entry)) (now (entries .entry)) (now (lefts .entry)) (now (rights .entry)) (now (heads .entry)) (now (next .entry)) lim lines
+        → Asked h (now (rows .entry)) (now (bindings .entry)) (now (list .entry)) (now (roots .entry)) (now (names .entry)) (now (entries .entry)) (now (ls .entry)) (now (rs .entry)) (now (heads .entry)) (now (next .entry)) lim lines
         → Gives lim (Step.bind (loadedState (held h (now (rows .entry)) (now (bindings .entry)) lines (now (entries .entry)))) v t)
         (s .refusal) (s .first ∷ s .second ∷ []) (held (after h s) (now (rows .entry)) (now (bindings .exit)) lines (now (entries .exit)))) ⌝ }
 {
@@ -177,8 +155,8 @@ pub fn bind(
         roots,
         names,
         entries,
-        lefts,
-        rights,
+        ls,
+        rs,
         heads,
         next,
     )

@@ -1,8 +1,10 @@
 -- `binding::bind` meets its contract: the tests before the walk refuse, or the variable is bound and the rest answers. Assumes
 -- nothing.
+use mathlib.Core.Path.{refl, _∙_}
 use native.Mathlib.Omega.{arith}
 use borrow.Author.Needs.{needs}
-use Rattle.binding.proofs.Chosen.{refuses, t-fits, v-fits, to-rebuild, chosen}
+use lib.ListN.{length-set}
+use Rattle.binding.proofs.Chosen.{tests-ask, refuses, t-fits, v-fits, to-rebuild, chosen}
 use Rattle.binding.proofs.bind.Statement.{statement}
 use Rattle.binding.proofs.bind.Tie as tie
 
@@ -30,23 +32,23 @@ pub bind-spec : {M : Type 1} → statement M
 bind-spec =
     tie.close
     (tie.spec
-    (λ c κs. search needs)
-    (λ c κs. search needs)
-    (λ c. search needs)
-    (λ c. search needs)
-    (λ c. search needs)
+    (λ c κs. tests-ask (c .before .before .before .before .before .before .before .before .before .before .before .before .before .pre .known))
+    (λ c κs. tt)
+    (λ c. refl)
+    (λ c. refl)
+    (λ c. c .before .before .before .before .early-refusal .kept .1 .1 .1 .1 .1 .1 .0)
     returns
     add-bindings
     (λ c. search needs)
     slice-write-bindings
     rebuild-requires
-    (λ c. search needs)
-    (λ c. search needs)
-    (λ c. search needs)
-    (λ c. search needs)
-    (λ c. search needs)
-    (λ c. search needs)
-    (λ c. search needs)
-    (λ c. search needs)
-    (λ c. search needs)
+    (λ c. simp length-set)
+    (λ c. c .before .before .before .before .before .before .before .before .before .before .before .before .before .before .before .before .rebuild .kept .1 .1 .1 .0)
+    (λ c. c .before .before .before .before .before .before .before .before .before .before .before .before .before .before .before .before .rebuild .kept .1 .1 .1 .1 .0)
+    (λ c. c .before .before .before .before .before .before .before .before .before .before .before .before .before .before .before .before .rebuild .kept .1 .1 .1 .1 .1 .0)
+    (λ c. c .before .before .before .before .before .before .before .before .before .before .before .before .before .before .before .before .rebuild .kept .1 .1 .1 .1 .1 .1 .0)
+    (λ c. c .before .before .before .before .before .before .before .before .before .before .before .before .before .before .before .before .rebuild .kept .1 .1 .1 .1 .1 .1 .1 .0)
+    (λ c. c .before .before .before .before .before .before .before .before .before .before .before .before .before .before .before .before .rebuild .kept .1 .1 .1 .1 .1 .1 .1 .1 .0)
+    (λ c. c .before .before .before .before .before .before .before .before .before .before .before .before .before .before .before .before .rebuild .kept .1 .1 .1 .1 .1 .1 .1 .1 .1 .0)
+    (λ c. c .before .before .before .before .before .before .before .before .before .before .before .before .before .before .before .before .rebuild .kept .1 .1 .1 .1 .1 .1 .1 .1 .1 .1 .0 ∙ c .before .before .before .before .before .before .before .before .before .before .before .before .before .before .before .before .before .before .before .before .before .before .before .before .before .before .before .before .before .early-refusal .kept .1 .1 .1 .1 .1 .1 .0)
     returns-2)

@@ -1,5 +1,5 @@
 -- `binding::early_refusal` meets its contract: each return follows the tests that lead there. Assumes nothing.
-use borrow.Author.Needs.{needs}
+use native.Mathlib.Omega.{arith}
 use borrow.Author.Tests.{not-true, not-false}
 use Rattle.binding.proofs.Tests.{no-term-v, no-term-t, not-free, by-occurrence}
 use Rattle.binding.proofs.early_refusal.Statement.{statement}
@@ -34,10 +34,10 @@ early-refusal-spec =
     (tie.spec
     returns
     returns-2
-    (λ c κs. search needs)
+    (λ c κs. let l = c .before .before .before .before .before .before .pre .0 in omega (arith, l .good .rows-fit, l .good .words-fit, c .before .if1 .left))
     returns-3
-    (λ c κs. search needs)
-    (λ c. search needs)
+    (λ c κs. (c .before .before .before .before .before .before .before .before .before .pre, c .before .before .before .if2 .left))
+    (λ c. c .before .before .before .occurs-in .kept .1 .1 .1 .1 .1 .1 .0)
     returns-4
-    (λ c. search needs)
+    (λ c. c .before .before .before .occurs-in .kept .1 .1 .1 .1 .1 .1 .0)
     returns-5)

@@ -74,15 +74,15 @@ pub rebuild-spec : {M : Type 1} → statement M
 rebuild-spec =
     tie.close
     (tie.spec
-    (λ c κs. search needs)
-    (λ c κs. search needs)
-    (λ c. search needs)
-    (λ c. search needs)
-    (λ c. search needs)
-    (λ c. search needs)
-    (λ c. search needs)
-    (λ c. search needs)
-    (λ c. search needs)
+    (λ c κs. (c .before .before .before .before .before .before .before .before .before .before .before .before .before .before .before .before .before .pre .good, c .before .before .before .before .before .before .before .before .before .before .before .before .before .before .before .before .before .pre .for-terms))
+    (λ c κs. tt)
+    (λ c. c .before .before .before .before .before .before .before .before .before .before .before .before .before .before .before .before .name-terms .kept .1 .0)
+    (λ c. c .before .before .before .before .before .before .before .before .before .before .before .before .before .before .before .before .name-terms .kept .1 .1 .1 .0)
+    (λ c. c .before .before .before .before .before .before .before .before .before .before .before .before .before .before .before .before .name-terms .kept .1 .1 .1 .1 .0)
+    (λ c. c .before .before .before .before .before .before .before .before .before .before .before .before .before .before .before .before .name-terms .kept .1 .1 .1 .1 .1 .0)
+    (λ c. c .before .before .before .before .before .before .before .before .before .before .before .before .before .before .before .before .name-terms .kept .1 .1 .1 .1 .1 .1 .1 .0)
+    (λ c. c .before .before .before .before .before .before .before .before .before .before .before .before .before .before .before .before .name-terms .kept .1 .1 .1 .1 .1 .1 .1 .1 .0)
+    (λ c. c .before .before .before .before .before .before .before .before .before .before .before .before .before .before .before .before .name-terms .kept .1 .1 .1 .1 .1 .1 .1 .1 .1 .0)
     returns
     (λ c. search needs)
     index-requires
@@ -90,7 +90,7 @@ rebuild-spec =
     same-length-8
     same-length-9
     same-length-10
-    (λ c. search needs)
+    (λ c. c .before .before .before .before .before .before .before .before .before .before .walk-and-settle .kept .1 .1 .1 .1 .0)
     same-length-12
     same-length-13
     same-length-14

@@ -16,7 +16,8 @@ use Rattle.state.specs.Ready.{Valued}
 use Rattle.table.specs.Stands.{Whatever}
 use Rattle.table.proofs.Sizes.{SameSizes}
 use Rattle.saturate.specs.Steps.{ToWalk, ToIndex, IsIndexed}
-use Rattle.steps.proofs.Tables.{valued-names, valued-known, room-fewer, indexed-stands}
+use Rattle.state.proofs.Rooms.{fewer-entries}
+use Rattle.steps.proofs.Tables.{valued-names, valued-known, indexed-stands}
 use Rattle.binding.specs.Choice.{ToRebuild}
 
 module _ {h : Header} {rows bindings list roots names entries lefts rights heads next : List ℕ}
@@ -43,7 +44,7 @@ module _ {h : Header} {rows bindings list roots names entries lefts rights heads
           held = r .table;
           left-term = rw (length-tableOf, length-bookOf) (r .left-term);
           right-term = rw (length-tableOf, length-bookOf) (r .right-term);
-          room = room-fewer few room;
+          room = fewer-entries few room;
         }
 
     pub to-walk : {lefts″ rights″ heads″ next″ : List ℕ} → SameSizes entries lefts′ rights′ heads′ next′ entries lefts″ rights″ heads″ next″

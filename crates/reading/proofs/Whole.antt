@@ -25,6 +25,7 @@ use Rattle.entries.specs.Known as Known
 use Rattle.area.specs.Held.{held}
 use Rattle.state.specs.Loading.{Words, Used}
 use Rattle.state.specs.Ready.{Valued, Room, Lent, Read}
+use Rattle.state.proofs.Rooms.{fewer-terms, fewer-entries}
 
 -- The header's numbers are the first words of the area.
 abbrev pub HeaderOf : List ℕ → Header → Type 0
@@ -36,36 +37,6 @@ pub are-bytes : (xs : List ℕ) → ((i : ℕ) → getD xs i 0 < 256) → T (are
 unfolding areBytes
 are-bytes [] h = tt
 are-bytes (x ∷ xs) h = and-both (ltb x 256) (areBytes xs) (lt→ltb x 256 (h zero)) (are-bytes xs (λ i. h (suc i)))
-
--- room for more terms, or for more entries, is room for fewer
-pub fewer-terms : {list roots names lefts rights heads next : List ℕ} {n m : ℕ} → m ≤ n → Room list roots names lefts rights heads next n
-    → Room list roots names lefts rights heads next m
-fewer-terms l r =
-    record {
-      list-fits = omega (arith, r .list-fits);
-      names-fit = omega (arith, r .names-fit);
-      scratch = record {
-        room = record {
-          lefts = omega (arith, r .scratch .room .lefts);
-          rights = omega (arith, r .scratch .room .rights);
-          links = omega (arith, r .scratch .room .links);
-        };
-        left-words = r .scratch .left-words;
-        all-heads = r .scratch .all-heads;
-        classes-fit = omega (arith, r .scratch .classes-fit);
-        words-fit = omega (arith, r .scratch .words-fit);
-      };
-    }
-
-pub fewer-entries : {lefts rights heads next : List ℕ} {n m : ℕ} → m ≤ n → Known.Room lefts rights heads next n → Known.Room lefts rights heads next m
-fewer-entries l r =
-    record {
-      lefts-fit = omega (arith, r .lefts-fit);
-      rights-fit = omega (arith, r .rights-fit);
-      next-fit = omega (arith, r .next-fit);
-      words = r .words;
-      all-heads = r .all-heads;
-    }
 
 -- what passes all tests passes those of the rows
 rows-tested : (w : Loaded) → T (soundLoaded w) → T (rowsOk w)

@@ -21,6 +21,7 @@ use Rattle.entries.proofs.Loaded.{named-loaded, known-loaded}
 use Rattle.entries.proofs.Places.{room-kept}
 use Rattle.state.specs.Ready.{Valued, Ready}
 use Rattle.state.proofs.Values.{front}
+use Rattle.state.proofs.Rooms.{fewer-entries}
 use Rattle.table.specs.Stands.{HoldsTable, KnownNames, KnownTerms, Stands}
 use Rattle.table.proofs.Sizes.{SameSizes}
 use Rattle.saturate.specs.Steps.{ToIndex, IsIndexed}
@@ -44,17 +45,6 @@ pub ready-known : {lim : Limits} {w : Loaded} {list roots names : List ℕ} → 
 unfolding loadedState
 ready-known r = valued-known (r .valued)
 
--- room for a capacity is room for fewer entries
-pub room-fewer : {lefts rights heads next : List ℕ} {capacity m : ℕ} → m ≤ capacity → Room lefts rights heads next capacity → Room lefts rights heads next m
-room-fewer l r =
-    record {
-      all-heads = r .all-heads;
-      words = r .words;
-      lefts-fit = omega (arith, r .lefts-fit);
-      rights-fit = omega (arith, r .rights-fit);
-      next-fit = omega (arith, r .next-fit);
-    }
-
 -- The words of a sound state.
 module _ {lim : Limits} {w : Loaded} {s : State} (f : SoundFacts lim s) (h : Holds lim w s) where
   -- its rows hold its table
@@ -77,7 +67,7 @@ module _ {lim : Limits} {w : Loaded} {s : State} (f : SoundFacts lim s) (h : Hol
         held = held-table;
         left-term = f .table .left-term;
         right-term = f .table .right-term;
-        room = room-fewer (omega (arith, f .few-entries, h .entries-count, h .the-capacity)) room;
+        room = fewer-entries (omega (arith, f .few-entries, h .entries-count, h .the-capacity)) room;
       }
 
 -- an indexed table stands in its slices

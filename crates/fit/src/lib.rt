@@ -146,6 +146,7 @@ pub extern "C" fn fit_report(area: &[u8], out: &mut [u8], written: &mut u32) -> 
     ensures written { λ r. ⌜ now (written .exit) ∷ [] ≡ callReport office (now (area .entry)) (now (out .entry)) .numbers ⌝ }
     ensures output { λ r. ⌜ now (out .exit) ≡ callReport office (now (area .entry)) (now (out .entry)) .output ⌝ }
 {
+    let mut head = [0u32; HEAD_WORDS];
     let mut lines = [0u32; layout::OFFICE_LINES];
     let mut names = [0u32; layout::OFFICE_TERMS];
     let mut rows = [0u32; layout::TERM_WORDS * layout::OFFICE_TERMS];
@@ -158,7 +159,6 @@ pub extern "C" fn fit_report(area: &[u8], out: &mut [u8], written: &mut u32) -> 
     let k = h.lines as usize;
     let mut met = [0u32; layout::OFFICE_CAPACITY];
     let mut numbers = [0u32; layout::OFFICE_CAPACITY];
-    let mut head = [0u32; HEAD_WORDS];
     report::report(
         h.entries as usize,
         &entries[..end],

@@ -137,10 +137,10 @@ fn ladder() -> Base {
     base
 }
 
-/// 1,024 different constants, and holes for as many lines as there may be.
+/// 1,024 different constants, and holes for as many lines as there may be, in a table that they fill.
 fn constants() -> Base {
     let terms: Vec<Term> = (0..1024).map(|symbol| over(symbol, &[])).collect();
-    let mut base = Base::opened(&terms, 300);
+    let mut base = Base::opened(&terms, 256);
     for i in 0..256 {
         base.step(Call::Add { l: i, r: 1023 - i });
     }
@@ -171,6 +171,11 @@ fn pairing_book(random: &mut Random, count: usize) -> Vec<Term> {
     book_over(random, &[(0, 0), (1, 1), (4095, 2), (300, 2)], count)
 }
 
+/// A book over one symbol with eight arguments: most pairs are common, and reports are long.
+fn wide_book(random: &mut Random, count: usize) -> Vec<Term> {
+    book_over(random, &[(4095, 8)], count)
+}
+
 /// A table nearly full of lines of terms over eight arguments, then so many lines of one entry each, and bindings that join classes.
 fn dense(random: &mut Random, capacity: u32, singles: u32, bindings: u32) -> Base {
     let mut terms: Vec<Term> = (0..128).map(|t| if t % 2 == 0 { Term::Variable } else { over(t, &[]) }).collect();
@@ -191,15 +196,56 @@ fn dense(random: &mut Random, capacity: u32, singles: u32, bindings: u32) -> Bas
     base
 }
 
+/// A table of 2,048 entries at capacity 2,048, or so many less. Pair p of 46 constants is (p / 46, p mod 46): 227 lines hold eight
+/// of these pairs each, in terms over eight arguments, and five lines one.
+fn brim(less: usize) -> Base {
+    let side = |p: u32, left: bool| if left { p / 46 } else { p % 46 };
+    let mut terms: Vec<Term> = (0..46).map(|symbol| over(symbol, &[])).collect();
+    for line in 0..227 {
+        for left in [true, false] {
+            let arguments: Vec<u32> = (8 * line..8 * line + 8).map(|p| side(p, left)).collect();
+            terms.push(over(4095, &arguments));
+        }
+    }
+    let mut base = Base::opened(&terms, 2048);
+    for line in 0..227 {
+        base.step(Call::Add { l: 46 + 2 * line, r: 47 + 2 * line });
+    }
+    for p in (8 * 227..8 * 227 + 5).skip(less) {
+        base.step(Call::Add { l: side(p, true), r: side(p, false) });
+    }
+    base
+}
+
+/// What the calls are measured on: 64 variables, 64 constants and 896 terms over eight of these, and lines until there is room for
+/// one more and hardly for two.
+pub fn measured(random: &mut Random, capacity: u32) -> Base {
+    let mut terms: Vec<Term> = (0..128).map(|t| if t < 64 { Term::Variable } else { over(t, &[]) }).collect();
+    for _ in 128..1024 {
+        let arguments: Vec<u32> = (0..8).map(|_| random.below(128) as u32).collect();
+        terms.push(over(4095, &arguments));
+    }
+    let mut base = Base::opened(&terms, capacity - 9);
+    for line in 0..256 {
+        base.step(Call::Add { l: 128 + 2 * line, r: 129 + 2 * line });
+    }
+    let steps = std::mem::take(&mut base.steps);
+    base = Base::opened(&terms, capacity);
+    for step in steps {
+        base.step(step);
+    }
+    base
+}
+
 /// Large books, long chains, deep terms, full tables and lists of lines.
 pub fn large(random: &mut Random) -> Vec<Base> {
-    let mut bases = vec![chain(true), chain(false), deep(), deep_binding(), ladder(), constants()];
+    let mut bases = vec![chain(true), chain(false), deep(), deep_binding(), ladder(), constants(), brim(0), brim(1)];
     bases.extend([255, 256].map(|lines| many_lines(random, lines)));
     for (capacity, singles, bindings) in [(2048, 0, 0), (2048, 6, 0), (2048, 6, 40), (900, 0, 0), (900, 6, 40)] {
         bases.push(dense(random, capacity, singles, bindings));
     }
     for (count, capacity) in [(1024, 2048), (1024, 1024), (1024, 60), (200, 2048), (60, 700)] {
-        for book in [narrow_book, pairing_book, random_book] {
+        for book in [narrow_book, pairing_book, random_book, wide_book] {
             let terms = book(random, count);
             bases.push(filled(random, &terms, capacity));
         }

@@ -1,66 +1,187 @@
-//! Opening and copying a book of 1,024 terms, through the C interface and in Rust, on the same bytes. Run by hand:
-//! `tests/run bench`. Each figure is the best of several rounds, in microseconds a call.
+//! The times of the calls at 1,024 terms, through the C interface and in Rust on the same bytes: opening and copying a book, and
+//! reading an entry, adding, fixing and reporting at 1,024 and at 2,048 entries. By hand: `tests/run bench`. A figure is the median of several runs
+//! and a run's the best of many rounds, in microseconds a call. The rows that are printed are those of docs/PERFORMANCE.md.
 
+mod bases;
+mod damage;
 mod fit;
 mod lean;
 mod reference;
 
-use reference::{perform, Call, Random, Term, OFFICE};
+use bases::Base;
+use reference::{perform, Answer, Call, Random, Term, OFFICE};
 use std::hint::black_box;
-use std::time::Instant;
+use std::time::{Duration, Instant};
 
+const RUNS: usize = 5;
 const ROUNDS: usize = 30;
-const CALLS: usize = 200;
+const CALLS: usize = 50;
+/// How often lean.rs is first compared with the second implementation on areas of which most are damaged.
+const COMPARED: usize = 4000;
+/// No report is longer.
+const LONGEST_REPORT: usize = 47_620;
 
-/// The best time of a call over all rounds, in microseconds.
-fn best(mut call: impl FnMut() -> u32) -> f64 {
-    let mut least = f64::INFINITY;
+/// A call on an area and an output.
+type Work<'a> = &'a dyn Fn(&mut [u8], &mut [u8]) -> Answer;
+
+/// The best time of a call over all rounds, in microseconds. The area is put back before each call, outside the time.
+fn best(work: Work, start: &[u8], out: &mut [u8]) -> f64 {
+    let mut area = start.to_vec();
+    let mut least = Duration::MAX;
     for _ in 0..ROUNDS {
-        let start = Instant::now();
+        let mut sum = Duration::ZERO;
         for _ in 0..CALLS {
-            assert_eq!(black_box(call()), 0);
+            area.copy_from_slice(start);
+            let clock = Instant::now();
+            black_box(work(black_box(&mut area), black_box(out)));
+            sum += clock.elapsed();
         }
-        least = least.min(start.elapsed().as_secs_f64() * 1e6 / CALLS as f64);
+        least = least.min(sum);
     }
-    least
+    least.as_secs_f64() * 1e6 / CALLS as f64
 }
 
-fn show(what: &str, ours: f64, lean: f64, plain: f64) {
-    println!("{what}: proved {ours:.1} µs, Rust on rows {lean:.1} µs (ratio {:.2}), Rust with vectors {plain:.1} µs (ratio {:.2})", ours / lean, ours / plain);
+/// The answer, the area and the output of a call.
+fn result(work: Work, start: &[u8], length: usize) -> (Answer, Vec<u8>, Vec<u8>) {
+    let (mut area, mut out) = (start.to_vec(), vec![0; length]);
+    let answer = work(&mut area, &mut out);
+    (answer, area, out)
+}
+
+fn median(mut figures: Vec<f64>) -> f64 {
+    figures.sort_by(f64::total_cmp);
+    figures[figures.len() / 2]
+}
+
+/// Prints the row of a call: the proved code, Rust on rows and Rust with vectors, which must be accepted and do the same.
+fn row(what: &str, start: &[u8], length: usize, works: [Work; 3]) {
+    let results = works.map(|work| result(work, start, length));
+    assert_eq!(results[0].0.refusal, 0, "{what} is refused");
+    assert!(results[0] == results[1] && results[0] == results[2], "{what}: the results differ");
+    let mut out = vec![0; length];
+    let runs: Vec<[f64; 3]> = (0..RUNS).map(|_| works.map(|work| best(work, start, &mut out))).collect();
+    let column = |i: usize| median(runs.iter().map(|run| run[i]).collect());
+    let ratios = |i: usize| runs.iter().map(move |run| run[0] / run[i]);
+    let (least, greatest) = (ratios(1).fold(f64::INFINITY, f64::min), ratios(1).fold(0.0, f64::max));
+    let (lean, plain) = (median(ratios(1).collect()), median(ratios(2).collect()));
+    println!("| {what} | {:.1} | {:.1} | {lean:.2} ({least:.2} to {greatest:.2}) | {:.1} | {plain:.2} |", column(0), column(1), column(2));
+}
+
+fn plainly(call: Call, area: &mut [u8], out: &mut [u8]) -> Answer {
+    perform(OFFICE, call, area, out)
+}
+
+fn leanly(call: Call, area: &mut [u8], out: &mut [u8]) -> Answer {
+    match call {
+        Call::Add { l, r } => {
+            let (refusal, entry) = lean::add(area, l, r);
+            Answer::new(refusal, &[entry])
+        }
+        Call::Bind { v, t } => {
+            let (refusal, turned, appended) = lean::bind(area, v, t);
+            Answer::new(refusal, &[turned, appended])
+        }
+        Call::Report => {
+            let (refusal, written) = lean::report(area, out);
+            Answer::new(refusal, &[written])
+        }
+        Call::Entry { i } => {
+            let (refusal, numbers) = lean::entry(area, i);
+            Answer { refusal, numbers }
+        }
+        Call::Open { capacity, book } => Answer::new(lean::open::<false>(capacity, book, area), &[]),
+        Call::Write => unreachable!("not measured"),
+    }
+}
+
+fn proved(call: Call, area: &mut [u8], out: &mut [u8]) -> Answer {
+    let mut numbers = [0; 14];
+    let [first, second, ..] = &mut numbers;
+    let refusal = match call {
+        Call::Add { l, r } => fit::add(area, l, r, first),
+        Call::Bind { v, t } => fit::bind(area, v, t, first, second),
+        Call::Entry { i } => fit::entry(area, i, &mut numbers),
+        Call::Report => fit::report(area, out, first),
+        Call::Open { capacity, book } => fit::open(capacity, book, area),
+        Call::Write => unreachable!("not measured"),
+    };
+    Answer { refusal, numbers }
+}
+
+fn call_row(what: &str, start: &[u8], call: Call) {
+    let length = if matches!(call, Call::Report) { LONGEST_REPORT } else { 0 };
+    row(what, start, length, [&|area, out| proved(call, area, out), &|area, out| leanly(call, area, out), &|area, out| plainly(call, area, out)]);
+}
+
+fn copy_row(book: &[u8]) {
+    let ours = |_: &mut [u8], out: &mut [u8]| {
+        let mut written = 0;
+        Answer::new(fit::copy_book(book, out, &mut written), &[written])
+    };
+    let length = [book.len() as u32];
+    let lean = |_: &mut [u8], out: &mut [u8]| Answer::new(lean::copy(book, out), &length);
+    let plain = |_: &mut [u8], out: &mut [u8]| {
+        let bytes = reference::encode(&reference::decode(OFFICE, book).unwrap());
+        out.copy_from_slice(&bytes);
+        Answer::new(0, &length)
+    };
+    row("decoding and encoding", &[], book.len(), [&ours, &lean, &plain]);
+}
+
+/// The calls on a table that is nearly full; reading an entry takes the time of the test of an area. Of the choices of a constant, the one that turns the most entries is measured.
+fn table_rows(base: &Base) {
+    let words = |i: usize| u32::from_le_bytes([0, 1, 2, 3].map(|byte| base.area[4 * i + byte]));
+    let (entries, lines) = (words(2), words(3));
+    let choices = (0..64).flat_map(|v| (64..128).map(move |t| Call::Bind { v, t }));
+    let turned = |call: &Call| perform(OFFICE, *call, &mut base.area.clone(), &mut []).numbers[0];
+    let choice = choices.max_by_key(turned).unwrap();
+    let at = format!("{entries} entries, {lines} lines, capacity {}", base.capacity);
+    call_row(&format!("reading an entry: {at}"), &base.area, Call::Entry { i: 0 });
+    call_row(&format!("adding a line: {at}"), &base.area, Call::Add { l: 1022, r: 1023 });
+    call_row(&format!("fixing a choice ({} turned): {at}", turned(&choice)), &base.area, choice);
+    call_row(&format!("reporting: {at}"), &base.area, Call::Report);
+}
+
+/// Rust on rows makes the same tests: it agrees with the second implementation on areas of which most are damaged.
+fn compare_lean() {
+    let mut random = Random(COMPARED as u64);
+    let bases: Vec<Base> = (0..200).map(|_| bases::small(&mut random)).collect();
+    for _ in 0..COMPARED {
+        let mut area = bases[random.place(bases.len())].area.clone();
+        let damage = random.pick(&[damage::alter, damage::edit]);
+        damage(&mut random, &mut area);
+        let (a, b) = (random.below(12) as u32, random.below(12) as u32);
+        for call in [Call::Add { l: a, r: b }, Call::Bind { v: a, t: b }, Call::Entry { i: a }, Call::Report] {
+            let length = 2 + random.place(60);
+            let same = result(&|area, out| leanly(call, area, out), &area, length) == result(&|area, out| plainly(call, area, out), &area, length);
+            assert!(same, "{call:?}: Rust on rows differs");
+        }
+    }
+}
+
+/// One count for each symbol: a table of symbols against a look back, on a book of symbols that are all different.
+fn show_look_back() {
+    let symbols: Vec<Term> = (0..1024).map(|symbol| Term::Application { symbol, arguments: vec![] }).collect();
+    let book = reference::encode(&symbols);
+    let start = vec![0; fit::area_length(1)];
+    let ours = best(&|area, _| Answer::new(fit::open(1, &book, area), &[]), &start, &mut []);
+    let table = best(&|area, _| Answer::new(lean::open::<false>(1, &book, area), &[]), &start, &mut []);
+    let look_back = best(&|area, _| Answer::new(lean::open::<true>(1, &book, area), &[]), &start, &mut []);
+    println!("opening 1,024 different symbols: proved {ours:.1} µs, Rust with a table {table:.1} µs, with a look back {look_back:.1} µs");
 }
 
 fn main() {
-    let mut random = Random(1024);
-    let book = reference::encode(&reference::random_book(&mut random, 1024));
-    println!("a book of 1,024 terms, {} bytes; buffers are not cleared between calls", book.len());
+    compare_lean();
+    let book = reference::encode(&reference::random_book(&mut Random(1024), 1024));
+    println!("a random book of 1,024 terms, {} bytes", book.len());
     for capacity in [1u32, 1024] {
-        let mut area = vec![0u8; fit::area_length(capacity)];
-        let ours = best(|| fit::open(capacity, black_box(&book), black_box(&mut area)));
-        let first = area.clone();
-        let lean = best(|| lean::open::<false>(capacity, black_box(&book), black_box(&mut area)));
-        assert_eq!(first, area);
-        let plain = best(|| perform(OFFICE, Call::Open { capacity, book: black_box(&book) }, black_box(&mut area), &mut []).refusal);
-        assert_eq!(first, area);
-        show(&format!("opening at capacity {capacity}"), ours, lean, plain);
+        let start = vec![0; fit::area_length(capacity)];
+        call_row(&format!("opening at capacity {capacity} ({} bytes written)", start.len()), &start, Call::Open { capacity, book: &book });
     }
-    let symbols: Vec<Term> = (0..1024).map(|symbol| Term::Application { symbol, arguments: vec![] }).collect();
-    let symbols = reference::encode(&symbols);
-    let mut area = vec![0u8; fit::area_length(1)];
-    let ours = best(|| fit::open(1, black_box(&symbols), black_box(&mut area)));
-    let table = best(|| lean::open::<false>(1, black_box(&symbols), black_box(&mut area)));
-    let look_back = best(|| lean::open::<true>(1, black_box(&symbols), black_box(&mut area)));
-    println!("opening 1,024 different symbols: proved {ours:.1} µs, Rust with a table {table:.1} µs, with a look back {look_back:.1} µs");
-    let mut out = vec![0u8; book.len()];
-    let mut written = 0;
-    let ours = best(|| fit::copy_book(black_box(&book), black_box(&mut out), &mut written));
-    assert_eq!(out, book);
-    let lean = best(|| lean::copy(black_box(&book), black_box(&mut out)));
-    assert_eq!(out, book);
-    let plain = best(|| {
-        let bytes = reference::encode(&reference::decode(OFFICE, black_box(&book)).unwrap());
-        black_box(&mut out).copy_from_slice(&bytes);
-        0
-    });
-    assert_eq!(out, book);
-    show("decoding and encoding", ours, lean, plain);
+    copy_row(&book);
+    println!("1,024 terms, 896 of them over eight arguments, and a table that is nearly full");
+    for capacity in [1024, 2048] {
+        table_rows(&bases::measured(&mut Random(1024), capacity));
+    }
+    show_look_back();
 }

@@ -1,9 +1,10 @@
 //! Compares lists of all six calls, through the C interface, with the second implementation: the answers, every byte of the area
 //! and every byte of the output. Some areas are damaged between two calls. It also tests on both that a second area gives the
 //! same report after the accepted bindings and then the accepted lines. Every list is made from its own seed, which is printed
-//! where the two differ.
+//! where the two differ. It counts what the lists were made of (census.rs), and fails where some kind of case never occurs.
 
 mod bases;
+mod census;
 mod damage;
 #[cfg_attr(stand_in, path = "stand_in.rs")]
 mod fit;
@@ -11,20 +12,29 @@ mod reference;
 mod samples;
 
 use bases::Base;
+use census::{Census, Kind, Sight, EVERY_LENGTH};
 use reference::{decode, encode, perform, Answer, Call, Limits, Random, Term, OFFICE};
 use samples::Tally;
+use std::thread;
 
 const LISTS: u64 = 200_000;
 const FIRST_SEED: u64 = 0xCA11_0000_0000_0000;
+/// The lists are shared out among so many threads, each with a stack that the deepest walk fits in.
+const THREADS: u64 = 2;
+const STACK: usize = 16 << 20;
 /// One list in so many starts from a large area, and one of these in so many is done over in the other order.
 const LARGE_EVERY: u64 = 128;
-const LARGE_ORDER_EVERY: u64 = 32;
+const LARGE_ORDER_EVERY: u64 = 64;
 /// One list in so many has no damage, is longer, and is done over in the other order.
 const ORDER_EVERY: u64 = 8;
+/// One list in so many ends with a report and a book into outputs of every length.
+const LENGTHS_EVERY: u64 = 4096;
 /// No report is longer.
 const LONGEST_REPORT: usize = 47_620;
 /// What the library's numbers are before a call.
 const UNSET: u32 = 0xA5A5_A5A5;
+/// Bytes before and after what is lent to the library.
+const GUARD: [u8; 16] = [0xC3; 16];
 
 /// A call through the C interface.
 fn library(_: Limits, call: Call, area: &mut [u8], out: &mut [u8]) -> Answer {
@@ -55,18 +65,53 @@ fn library(_: Limits, call: Call, area: &mut [u8], out: &mut [u8]) -> Answer {
     }
 }
 
+/// Bytes that are lent to the library, between guards.
+struct Lent(Vec<u8>);
+
+impl Lent {
+    fn new(bytes: &[u8]) -> Lent {
+        Lent([&GUARD, bytes, &GUARD].concat())
+    }
+
+    fn set(&mut self, bytes: &[u8]) {
+        self.0.clear();
+        for part in [&GUARD, bytes, &GUARD] {
+            self.0.extend_from_slice(part);
+        }
+    }
+
+    fn bytes(&mut self) -> &mut [u8] {
+        let end = self.0.len() - GUARD.len();
+        &mut self.0[GUARD.len()..end]
+    }
+
+    /// Whether these are the bytes, and the guards are as they were.
+    fn holds(&self, expected: &[u8]) -> bool {
+        let (before, rest) = self.0.split_at(GUARD.len());
+        let (bytes, after) = rest.split_at(rest.len() - GUARD.len());
+        bytes == expected && before == GUARD && after == GUARD
+    }
+}
+
 /// One area, in the library's hands and in those of the second implementation.
-#[derive(Default)]
 struct Twins {
-    ours: Vec<u8>,
+    ours: Lent,
     theirs: Vec<u8>,
 }
 
 impl Twins {
+    fn new() -> Twins {
+        Twins { ours: Lent::new(&[]), theirs: Vec::new() }
+    }
+
     fn set(&mut self, area: &[u8]) {
-        self.ours.clear();
-        self.ours.extend_from_slice(area);
-        self.theirs.clone_from(&self.ours);
+        self.ours.set(area);
+        self.theirs.clear();
+        self.theirs.extend_from_slice(area);
+    }
+
+    fn sight(&self) -> Sight {
+        Sight::of(&self.theirs)
     }
 
     /// Damages both in the same way, or cuts them a little.
@@ -76,59 +121,44 @@ impl Twins {
             2..=3 => damage::edit(random, &mut self.theirs),
             _ => self.theirs.truncate(self.theirs.len().saturating_sub(random.place(12))),
         }
-        self.ours.clone_from(&self.theirs);
+        self.ours.set(&self.theirs);
     }
 
-    /// Makes a call with an output of this length on both; the answer, or in what they differ.
-    fn call(&mut self, call: Call, length: usize, filling: u8) -> Result<Answer, String> {
-        let mut our_out = vec![filling; length];
-        let mut their_out = our_out.clone();
-        let ours = library(OFFICE, call, &mut self.ours, &mut our_out);
+    /// Makes a call with an output of this length on both; the answer and the output, or in what they differ.
+    fn call(&mut self, call: Call, length: usize, filling: u8) -> Result<(Answer, Vec<u8>), String> {
+        let mut their_out = vec![filling; length];
+        let mut our_out = Lent::new(&their_out);
+        let ours = library(OFFICE, call, self.ours.bytes(), our_out.bytes());
         let theirs = perform(OFFICE, call, &mut self.theirs, &mut their_out);
         if ours != theirs {
             return Err(format!("{call:?} answers {ours:?}, expected {theirs:?}"));
         }
-        if self.ours != self.theirs {
+        if !self.ours.holds(&self.theirs) {
             return Err(format!("{call:?} leaves another area"));
         }
-        if our_out != their_out {
+        if !our_out.holds(&their_out) {
             return Err(format!("{call:?} leaves another output of length {length}"));
         }
-        Ok(theirs)
+        Ok((theirs, their_out))
     }
 
-    /// The report of the library and that of the second implementation.
-    fn reports(&mut self) -> Result<[Vec<u8>; 2], String> {
-        Ok([report(library, &mut self.ours)?, report(perform, &mut self.theirs)?])
+    /// How many bytes a report or a book takes; 0 where it is refused.
+    fn needed(&mut self, call: Call) -> usize {
+        let mut out = vec![0; LONGEST_REPORT];
+        perform(OFFICE, call, &mut self.theirs, &mut out).numbers[0] as usize
     }
 }
 
-/// The bytes of the report of an area that must have one.
-fn report(perform: samples::Perform, area: &mut [u8]) -> Result<Vec<u8>, String> {
-    let mut out = vec![0; LONGEST_REPORT];
-    let answer = perform(OFFICE, Call::Report, area, &mut out);
-    if answer.refusal != 0 {
-        return Err(format!("a report is refused with {}", answer.refusal));
-    }
-    out.truncate(answer.numbers[0] as usize);
-    Ok(out)
-}
-
-/// A list of calls as it goes on: an area, the book opened in it, and the steps accepted since.
-#[derive(Default)]
+/// A list of calls as it goes on: an area, the book opened in it, the steps accepted since, and what else happened since.
 struct List {
     twins: Twins,
     terms: Vec<Term>,
     book: Vec<u8>,
     capacity: u32,
     accepted: Vec<Call<'static>>,
-}
-
-/// What a run has seen.
-#[derive(Default)]
-struct Census {
-    answers: [u64; 14],
-    orders: u64,
+    damaged: bool,
+    refused: bool,
+    other_calls: bool,
 }
 
 fn random_capacity(random: &mut Random) -> u32 {
@@ -141,11 +171,12 @@ fn random_capacity(random: &mut Random) -> u32 {
     }
 }
 
-/// The terms of a small book; now and then of any size.
+/// The terms of a small book; now and then of any size, or at the limit.
 fn random_terms(random: &mut Random) -> Vec<Term> {
     let count = match random.below(256) {
         0 => random.place(1025),
-        1..=16 => random.place(40),
+        1 => random.pick(&[0, 1, 1023, 1024, 1025]),
+        2..=16 => random.place(40),
         _ => random.place(12),
     };
     if random.below(8) == 0 {
@@ -169,19 +200,58 @@ fn blemish(random: &mut Random, book: &mut Vec<u8>) {
 }
 
 impl List {
+    fn new() -> List {
+        List {
+            twins: Twins::new(),
+            terms: Vec::new(),
+            book: Vec::new(),
+            capacity: 0,
+            accepted: Vec::new(),
+            damaged: false,
+            refused: false,
+            other_calls: false,
+        }
+    }
+
+    /// Starts from a book that was opened, and the steps accepted since.
+    fn start(&mut self, book: &[u8], capacity: u32, accepted: &[Call<'static>]) {
+        self.book = book.to_vec();
+        self.terms = decode(OFFICE, book).unwrap_or_default();
+        self.capacity = capacity;
+        self.accepted = accepted.to_vec();
+        (self.damaged, self.refused, self.other_calls) = (false, false, false);
+    }
+
     /// Starts from a base.
     fn take(&mut self, base: &Base) {
         self.twins.set(&base.area);
-        self.book.clone_from(&base.book);
-        self.terms = decode(OFFICE, &self.book).unwrap_or_default();
-        self.capacity = base.capacity;
-        self.accepted.clone_from(&base.steps);
+        self.start(&base.book, base.capacity, &base.steps);
     }
 
-    /// Opens a book, mostly a valid one in an area that is long enough; true where it is accepted.
-    fn open(&mut self, random: &mut Random, census: &mut Census) -> Result<bool, String> {
-        let terms = random_terms(random);
-        let mut book = encode(&terms);
+    /// Opens a book in an area that held something else; true where it is accepted.
+    fn open(&mut self, random: &mut Random, capacity: u32, book: &[u8], length: usize, census: &mut Census) -> Result<bool, String> {
+        self.twins.set(&vec![random.next() as u8; length]);
+        let call = Call::Open { capacity, book };
+        let (answer, _) = self.twins.call(call, 0, 0)?;
+        census.answer(call, false, &answer);
+        census.opening(capacity, self.twins.sight(), &answer);
+        if answer.refusal == 0 {
+            self.start(book, capacity, &[]);
+        }
+        Ok(answer.refusal == 0)
+    }
+
+    /// Opens a valid book in an area that is long enough.
+    fn open_at(&mut self, random: &mut Random, capacity: u32, census: &mut Census) -> Result<bool, String> {
+        let mut terms = random_terms(random);
+        terms.truncate(OFFICE.terms);
+        let length = OFFICE.area_length(capacity) + random.place(9);
+        self.open(random, capacity, &encode(&terms), length, census)
+    }
+
+    /// Opens a book, mostly a valid one in an area that is long enough.
+    fn open_any(&mut self, random: &mut Random, census: &mut Census) -> Result<bool, String> {
+        let mut book = encode(&random_terms(random));
         blemish(random, &mut book);
         let capacity = random_capacity(random);
         let needed = OFFICE.area_length(capacity);
@@ -190,15 +260,7 @@ impl List {
             1 => random.place(needed + 1),
             _ => needed + random.place(9),
         };
-        self.twins.set(&vec![random.next() as u8; length]);
-        let answer = self.twins.call(Call::Open { capacity, book: &book }, 0, 0)?;
-        census.answers[answer.refusal as usize] += 1;
-        if answer.refusal == 0 {
-            self.terms = decode(OFFICE, &book).unwrap_or_default();
-            (self.book, self.capacity) = (book, capacity);
-            self.accepted.clear();
-        }
-        Ok(answer.refusal == 0)
+        self.open(random, capacity, &book, length, census)
     }
 
     /// A step with numbers of the book, or one in eight with any.
@@ -216,62 +278,120 @@ impl List {
         random.pick(&[Call::Add { l: a, r: b }, Call::Bind { v: a, t: b }])
     }
 
+    /// An entry number, in range where there are entries or not.
+    fn random_entry(&self, random: &mut Random) -> Call<'static> {
+        let entries = self.twins.sight().entries;
+        let inside = random.below(u64::from(entries) + 1) as u32;
+        let (power, any) = (1 << random.below(32), random.next() as u32);
+        Call::Entry { i: random.pick(&[inside, inside, inside, inside, entries.wrapping_sub(1), entries, power, any, u32::MAX]) }
+    }
+
     fn random_call(&self, random: &mut Random) -> Call<'static> {
         match random.below(8) {
             0..=4 => self.random_step(random),
-            5 => {
-                let (near, any) = (random.below(8) as u32, random.next() as u32);
-                Call::Entry { i: random.pick(&[near, near, near, 1 << near, any]) }
-            }
+            5 => self.random_entry(random),
             6 => Call::Report,
             _ => Call::Write,
         }
     }
 
-    /// An output length from 0 to more than the call writes; 0 for a call that writes none.
-    fn random_length(&mut self, random: &mut Random, call: Call) -> usize {
-        if !matches!(call, Call::Report | Call::Write) {
-            return 0;
-        }
-        let mut out = vec![0; LONGEST_REPORT];
-        let needed = perform(OFFICE, call, &mut self.twins.theirs, &mut out).numbers[0] as usize;
-        match random.below(8) {
-            0 => random.place(needed + 1),
-            1 => needed.saturating_sub(1),
-            2 => needed,
-            _ => needed + random.place(20),
-        }
-    }
-
     /// Makes a call on both sides, and keeps it where it is an accepted step.
     fn make(&mut self, random: &mut Random, call: Call<'static>, census: &mut Census) -> Result<(), String> {
-        let length = self.random_length(random, call);
-        let answer = self.twins.call(call, length, random.next() as u8)?;
-        census.answers[answer.refusal as usize] += 1;
-        if answer.refusal == 0 && matches!(call, Call::Add { .. } | Call::Bind { .. }) {
-            self.accepted.push(call);
+        if matches!(call, Call::Report | Call::Write) {
+            let needed = self.twins.needed(call);
+            let length = random_length(random, needed);
+            return self.put(random, call, needed, length, census);
+        }
+        let before = self.twins.sight();
+        let (answer, _) = self.twins.call(call, 0, 0)?;
+        census.answer(call, self.damaged, &answer);
+        if answer.refusal != 7 {
+            census.call(call, before, self.twins.sight(), &answer);
+        }
+        match call {
+            Call::Entry { .. } => self.other_calls = true,
+            _ if answer.refusal == 0 => self.accepted.push(call),
+            _ => self.refused = true,
         }
         Ok(())
     }
 
-    /// A second area: the accepted bindings, then the accepted lines. None is refused, and the reports are the same.
-    fn done_over(&mut self, twins: &mut Twins) -> Result<(), String> {
-        let filling = vec![0x5A; OFFICE.area_length(self.capacity)];
-        twins.set(&filling);
+    /// Makes a report or writes the book, which takes so many bytes, into an output of this length.
+    fn put(&mut self, random: &mut Random, call: Call, needed: usize, length: usize, census: &mut Census) -> Result<(), String> {
+        let (answer, _) = self.twins.call(call, length, random.next() as u8)?;
+        census.answer(call, self.damaged, &answer);
+        if answer.refusal != 7 {
+            census.output(call, needed, length);
+        }
+        self.other_calls = true;
+        Ok(())
+    }
+
+    /// A report and a book into outputs of every length.
+    fn put_all(&mut self, random: &mut Random, census: &mut Census) -> Result<(), String> {
+        for call in [Call::Report, Call::Write] {
+            let needed = self.twins.needed(call);
+            for length in 0..EVERY_LENGTH {
+                self.put(random, call, needed, length, census)?;
+            }
+        }
+        Ok(())
+    }
+
+    /// A second area: the accepted bindings, then the accepted lines. None is refused, and into outputs of one length both areas
+    /// give the same report.
+    fn done_over(&mut self, second: &mut Twins, census: &mut Census) -> Result<(), String> {
+        second.set(&vec![0x5A; OFFICE.area_length(self.capacity)]);
         let opening = Call::Open { capacity: self.capacity, book: &self.book };
-        let bindings = self.accepted.iter().copied().filter(|call| matches!(call, Call::Bind { .. }));
-        let lines = self.accepted.iter().copied().filter(|call| matches!(call, Call::Add { .. }));
+        let bindings = self.accepted.iter().copied().filter(is_choice);
+        let lines = self.accepted.iter().copied().filter(|call| !is_choice(call));
         for call in std::iter::once(opening).chain(bindings).chain(lines) {
-            let answer = twins.call(call, 0, 0)?;
+            let (answer, _) = second.call(call, 0, 0)?;
             if answer.refusal != 0 {
                 return Err(format!("in the other order {call:?} is refused with {}", answer.refusal));
             }
         }
-        let (first, second) = (self.twins.reports()?, twins.reports()?);
-        if first != second || first[0] != first[1] {
-            return Err(format!("the reports of the two orders are {first:02X?} and {second:02X?}"));
+        let needed = self.twins.needed(Call::Report);
+        for length in [0, needed - 1, needed, needed + 5] {
+            let one = self.twins.call(Call::Report, length, 0x33)?;
+            let other = second.call(Call::Report, length, 0x33)?;
+            if one != other {
+                return Err(format!("the reports of the two orders are {one:02X?} and {other:02X?}"));
+            }
+            census.note(Kind::DoneOverShortOutput, one.0.refusal == 13);
         }
+        self.note_done_over(second, census);
         Ok(())
+    }
+
+    fn note_done_over(&self, second: &Twins, census: &mut Census) {
+        let sight = self.twins.sight();
+        let first_line = self.accepted.iter().position(|call| !is_choice(call)).unwrap_or(self.accepted.len());
+        census.note(Kind::DoneOver, true);
+        census.note(Kind::DoneOverEmpty, self.accepted.is_empty());
+        census.note(Kind::DoneOverRefusals, self.refused);
+        census.note(Kind::DoneOverOtherCalls, self.other_calls);
+        census.note(Kind::DoneOverMixed, self.accepted[first_line..].iter().any(is_choice));
+        census.note(Kind::DoneOverOtherArea, !self.twins.theirs.starts_with(&second.theirs));
+        census.note(Kind::DoneOverMostLines, sight.lines == 256);
+        census.note(Kind::DoneOverFull, sight.entries == sight.capacity);
+        census.note(Kind::DoneOverMostEntries, sight.entries == OFFICE.capacity);
+        census.note(Kind::DoneOverFullBook, sight.terms == 1024);
+    }
+}
+
+fn is_choice(call: &Call) -> bool {
+    matches!(call, Call::Bind { .. })
+}
+
+/// An output length from 0 to more than what is written.
+fn random_length(random: &mut Random, needed: usize) -> usize {
+    match random.below(8) {
+        0 => random.place(needed + 1),
+        1 => needed.saturating_sub(1),
+        2 => needed,
+        3 => 0,
+        _ => needed + random.place(20),
     }
 }
 
@@ -279,9 +399,12 @@ impl List {
 fn mixed(random: &mut Random, list: &mut List, census: &mut Census) -> Result<(), String> {
     for _ in 0..1 + random.below(5) {
         match random.below(40) {
-            0..=2 => list.twins.alter(random),
+            0..=2 => {
+                list.twins.alter(random);
+                list.damaged = true;
+            }
             3 => {
-                list.open(random, census)?;
+                list.open_any(random, census)?;
             }
             _ => {}
         }
@@ -291,63 +414,87 @@ fn mixed(random: &mut Random, list: &mut List, census: &mut Census) -> Result<()
     Ok(())
 }
 
-/// Steps only, and then all accepted ones in the other order.
-fn ordered(random: &mut Random, list: &mut List, spare: &mut Twins, census: &mut Census) -> Result<(), String> {
-    for _ in 0..2 + random.below(16) {
-        let call = list.random_step(random);
+/// Steps, with other calls between some, and then all accepted ones in the other order.
+fn ordered(random: &mut Random, list: &mut List, second: &mut Twins, census: &mut Census) -> Result<(), String> {
+    for _ in 0..random.below(18) {
+        let call = if random.below(8) == 0 { list.random_call(random) } else { list.random_step(random) };
         list.make(random, call, census)?;
     }
-    census.orders += 1;
-    list.done_over(spare)
+    list.done_over(second, census)
 }
 
-/// One list of calls; an error says in what the two differ.
-fn run_list(random: &mut Random, large: &[Base], list: &mut List, spare: &mut Twins, census: &mut Census) -> Result<(), String> {
-    let from_large = random.below(LARGE_EVERY) == 0;
-    if from_large {
+/// One list of calls; an error says in what the two differ. The first lists take every large area and then every capacity.
+fn run_list(number: u64, large: &[Base], list: &mut List, second: &mut Twins, census: &mut Census) -> Result<(), String> {
+    let random = &mut Random(FIRST_SEED + number);
+    let number = number as usize;
+    let mut order_every = ORDER_EVERY;
+    if number < large.len() {
+        list.take(&large[number]);
+        order_every = 1;
+    } else if number < large.len() + OFFICE.capacity as usize {
+        list.open_at(random, 1 + (number - large.len()) as u32, census)?;
+    } else if random.below(LARGE_EVERY) == 0 {
         list.take(&large[random.place(large.len())]);
-    } else if !list.open(random, census)? {
+        order_every = LARGE_ORDER_EVERY;
+    } else if !list.open_any(random, census)? {
         return Ok(());
     }
-    let every = if from_large { LARGE_ORDER_EVERY } else { ORDER_EVERY };
-    if random.below(every) == 0 {
-        ordered(random, list, spare, census)
+    if random.below(order_every) == 0 {
+        ordered(random, list, second, census)?;
     } else {
-        mixed(random, list, census)
+        mixed(random, list, census)?;
     }
+    if random.below(LENGTHS_EVERY) == 0 {
+        list.put_all(random, census)?;
+    }
+    Ok(())
 }
 
-/// All lists; how many differ.
-fn run_lists(census: &mut Census) -> u64 {
-    let large = bases::large(&mut Random(FIRST_SEED));
-    let (mut list, mut spare) = (List::default(), Twins::default());
+/// Every list whose number leaves this rest when divided by the number of threads; what was seen, and how many differ.
+fn run_share(rest: u64, large: &[Base]) -> (Census, u64) {
+    let mut census = Census::new();
+    let (mut list, mut second) = (List::new(), Twins::new());
     let mut different = 0;
-    for number in 1..=LISTS {
-        let seed = FIRST_SEED + number;
-        if let Err(what) = run_list(&mut Random(seed), &large, &mut list, &mut spare, census) {
-            println!("seed {seed:#x}: {what}");
+    for number in (rest..LISTS).step_by(THREADS as usize) {
+        if let Err(what) = run_list(number, large, &mut list, &mut second, &mut census) {
+            println!("list {number}, seed {:#x}: {what}", FIRST_SEED + number);
             different += 1;
         }
-        if different > 20 {
+        if different > 10 {
             break;
         }
     }
-    different
+    (census, different)
+}
+
+/// All lists.
+fn run_lists() -> (Census, u64) {
+    let large = &bases::large(&mut Random(FIRST_SEED));
+    let mut seen = (Census::new(), 0);
+    thread::scope(|scope| {
+        let start = |rest| thread::Builder::new().stack_size(STACK).spawn_scoped(scope, move || run_share(rest, large)).unwrap();
+        let shares: Vec<_> = (0..THREADS).map(start).collect();
+        for share in shares {
+            let (census, different) = share.join().unwrap();
+            seen.0.join(&census);
+            seen.1 += different;
+        }
+    });
+    seen
 }
 
 fn main() {
     let mut tally = Tally::default();
     samples::run(OFFICE, library, &mut tally);
     samples::layout_example(OFFICE, library, &mut tally);
-    let mut census = Census::default();
-    let different = run_lists(&mut census);
-    println!("{LISTS} lists from seed {FIRST_SEED:#x}, {} calls", census.answers.iter().sum::<u64>());
-    println!("{} lists done over in the other order", census.orders);
-    println!("accepted: {}", census.answers[0]);
-    for refusal in 1..=13 {
-        println!("refused with {refusal}: {}", census.answers[refusal]);
-    }
-    tally.test("every answer occurs", census.answers.iter().all(|&number| number > 0));
+    let (census, different) = run_lists();
+    println!("{LISTS} lists from seed {FIRST_SEED:#x}, {} calls, {different} lists differ", census.calls());
+    census.print();
+    tally.test("each call gives every answer that it can give, and no other", census.has_all_answers());
+    tally.test("each call meets damaged areas, unsound and sound", census.has_all_damage());
+    tally.test("every capacity is opened", census.has_all_capacities());
+    tally.test("reports and books go into outputs of every length", census.has_all_lengths());
+    tally.test(&format!("every kind of case occurs, but: {:?}", census.missing()), census.missing().is_empty());
     tally.test("the two agree, and so do the two orders", different == 0);
     tally.finish()
 }

@@ -1,5 +1,10 @@
 //! Opening and copying a book in plain Rust as the proved code does it, on rows of words and with no allocation: what the
-//! proved code is measured against.
+//! proved code is measured against. lean/calls.rs has the calls on an opened area.
+
+mod area;
+mod calls;
+
+pub use calls::{add, bind, entry, report};
 
 use crate::reference::OFFICE;
 

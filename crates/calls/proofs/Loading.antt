@@ -6,17 +6,13 @@ use native.Mathlib.Omega.{arith}
 use lib.ListN.{length, take, length-take}
 use Rattle.model.specs.Limits.{Limits}
 use Rattle.model.specs.Area.{entryRowWords, word}
-use Rattle.layout.specs.Rows.{Loaded, loadedState}
 use Rattle.names.proofs.Lowest.{scratch-kept}
-use Rattle.entries.specs.Known.{Room}
 use Rattle.entries.proofs.Places.{room-kept}
 use Rattle.area.specs.declared.Header.{Header}
 use Rattle.area.specs.Held.{held}
 use Rattle.state.specs.Loading.{headerOf}
-use Rattle.state.specs.Ready.{Lent, Ready, Read}
+use Rattle.state.specs.Ready.{Lent, Read}
 use Rattle.reading.proofs.Whole.{HeaderOf}
-use Rattle.state.proofs.Uses.{ready-facts}
-use Rattle.state.proofs.Rooms.{fewer-entries}
 
 -- slices of the same lengths have room for the same states
 pub lent-kept : {lim : Limits} {list roots names ls rs heads next list′ roots′ names′ ls′ rs′ heads′ next′ : List ℕ} → Lent lim list roots names ls rs heads next
@@ -28,12 +24,6 @@ lent-kept l i o n p q h x =
       for-terms = record { list-fits = rw i (t .list-fits); names-fit = rw n (t .names-fit); scratch = scratch-kept (t .scratch) p q h x o };
       for-entries = room-kept (l .for-entries) p q h x;
     }
-
--- room for every state is room for the entries of this one
-pub ready-room : {lim : Limits} {w : Loaded} {list roots names list′ roots′ names′ ls rs heads next : List ℕ} → Ready lim w list roots names
-    → Lent lim list′ roots′ names′ ls rs heads next → Room ls rs heads next (w .capacity)
-unfolding loadedState
-ready-room r l = fewer-entries (omega (arith, ready-facts r .capacity-fits)) (l .for-entries)
 
 module _ {lim : Limits} {area rows bindings lines list roots names : List ℕ} {h : Header} (entries : List ℕ) (head : HeaderOf area h)
     (r : Read lim area (held (headerOf area) rows bindings lines (take (entryRowWords * word area 0) entries)) list roots names) where

@@ -1,32 +1,22 @@
 -- From a step's answer to the outcome of its call. Assumes nothing.
 use mathlib.Core.Path.{_≡_, refl, sym, ap, _∙_}
-use mathlib.Core.List.{List, [], _∷_}
-use mathlib.Core.Bool.{Bool, true, false, cond}
+use mathlib.Core.List.{List}
+use mathlib.Core.Bool.{Bool, true, false}
 use Prim.Native.Nat.{ℕ, _≤_}
-use lib.ListN.{length, replicate}
-use lib.Dec.{T}
-use borrow.Author.Tests.{eq-eqb, ne-eqb}
+use lib.ListN.{length}
 use Rattle.model.specs.Limits.{Limits}
 use Rattle.model.specs.Lists.{concatMap}
-use Rattle.model.specs.Step.{State, Answer, refused, accepted, addLine, bind}
+use Rattle.model.specs.Step.{State, Answer, refused, accepted}
 use Rattle.model.specs.Area.{wordSize, toBytes, areaBytes, areaLength, sound, stateOf}
 use Rattle.model.specs.Call.{Outcome, refuse, accept, guard, over, stepped, callAdd, callBind}
 use Rattle.theory.proofs.Area.Bytes.{sound-carries}
 use Rattle.theory.proofs.Lists.Laws.{true-T}
-use Rattle.layout.specs.Rows.{Loaded, Sized, loadedWords, loadedState}
+use Rattle.layout.specs.Rows.{Loaded, Sized, loadedState}
 use Rattle.steps.specs.declared.Stepped.{Stepped}
 use Rattle.steps.specs.Stepped.{Gives}
-use Rattle.calls.specs.Called.{callStep, stepOf, numbersOf, Called, storedBytes}
-
--- what is stored after a step, by its refusal
-module _ (refusal : ℕ) (w : Loaded) (area : List ℕ) where
-  pub stored : refusal ≡ 0 → storedBytes refusal w area ≡ over (concatMap (toBytes wordSize) (loadedWords w)) area
-  unfolding storedBytes
-  stored e = rw (eq-eqb refusal 0 e)
-
-  pub not-stored : (refusal ≡ 0 → ⊥) → storedBytes refusal w area ≡ area
-  unfolding storedBytes
-  not-stored h = rw (ne-eqb refusal 0 h)
+use Rattle.stepping.specs.Step.{stepOf, numbersOf, storedBytes}
+use Rattle.stepping.proofs.Answers.{stored, not-stored}
+use Rattle.calls.specs.Called.{callStep, Called}
 
 -- The refusal, the numbers and the area are those of an outcome.
 abbrev Answered : Outcome → ℕ → List ℕ → List ℕ → Type 0
@@ -46,18 +36,6 @@ module _ (lim : Limits) (w : Loaded) (refusal : ℕ) (numbers : List ℕ) where
   unfolding Gives
   answer-sized (refused n) g e = absurd (g .1 (sym (g .0) ∙ e))
   answer-sized (accepted ns s) g e = g .2 .sized
-
--- The step that is asked for gives the answer.
-module _ (lim : Limits) (fixes : Bool) (state : State) (a b : ℕ) (s : Stepped) (w : Loaded) where
-  pub gives-choice : fixes ≡ true → Gives lim (bind state a b) (s .refusal) (s .first ∷ s .second ∷ []) w
-      → Gives lim (stepOf lim fixes state a b) (s .refusal) (numbersOf fixes s) w
-  unfolding stepOf numbersOf
-  gives-choice e g = rw e g
-
-  pub gives-line : fixes ≡ false → Gives lim (addLine lim state a b) (s .refusal) (s .first ∷ []) w
-      → Gives lim (stepOf lim fixes state a b) (s .refusal) (numbersOf fixes s) w
-  unfolding stepOf numbersOf
-  gives-line e g = rw e g
 
 module _ (lim : Limits) (area : List ℕ) (a b : ℕ) where
   -- a refusal with zeros of an area that is not sound

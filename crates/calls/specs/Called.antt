@@ -1,36 +1,20 @@
 -- The two calls that take a step on an area, as one (document 01, "Add a line", "Fix a choice", "Turned down"). Assumes nothing:
 -- these are definitions.
 use mathlib.Core.Path.{_≡_}
-use mathlib.Core.List.{List, [], _∷_}
+use mathlib.Core.List.{List}
 use mathlib.Core.Bool.{Bool, cond}
 use Prim.Native.Nat.{ℕ}
-use lib.Dec.{eqb}
 use Rattle.model.specs.Limits.{Limits}
-use Rattle.model.specs.Lists.{concatMap}
-use Rattle.model.specs.Step.{State, Answer, addLine, bind}
-use Rattle.model.specs.Area.{wordSize, toBytes}
-use Rattle.model.specs.Call.{Outcome, over, callAdd, callBind}
-use Rattle.layout.specs.Rows.{Loaded, loadedWords}
+use Rattle.model.specs.Call.{Outcome, callAdd, callBind}
 use Rattle.steps.specs.declared.Stepped.{Stepped}
+use Rattle.stepping.specs.Step.{numbersOf}
 
 -- The call that fixes the choice (a, b), or adds the line (a, b).
 unfoldable pub callStep : Limits → Bool → List ℕ → ℕ → ℕ → Outcome
 callStep lim fixes area a b = cond fixes (callBind lim area a b) (callAdd lim area a b)
-
--- Its step on the area's state.
-unfoldable pub stepOf : Limits → Bool → State → ℕ → ℕ → Answer
-stepOf lim fixes s a b = cond fixes (bind s a b) (addLine lim s a b)
-
--- The numbers that it answers: two of a choice, one of a line.
-unfoldable pub numbersOf : Bool → Stepped → List ℕ
-numbersOf fixes s = cond fixes (s .first ∷ s .second ∷ []) (s .first ∷ [])
 
 -- The answer and the area after it are those of an outcome.
 pub record Called (outcome : Outcome) (fixes : Bool) (s : Stepped) (area : List ℕ) : Type 0 where
   pub refusal : s .refusal ≡ outcome .refusal
   pub numbers : numbersOf fixes s ≡ outcome .numbers
   pub bytes : area ≡ outcome .area
-
--- An area after a step: with the words that it leaves, or as it was where it is refused.
-unfoldable pub storedBytes : ℕ → Loaded → List ℕ → List ℕ
-storedBytes refusal w area = cond (eqb refusal 0) (over (concatMap (toBytes wordSize) (loadedWords w)) area) area

@@ -1,9 +1,8 @@
--- `calls::take` meets its contract: a choice is fixed or a line added, as is asked, on the state that is loaded. Assumes nothing.
+-- `stepping::take` meets its contract: a choice is fixed or a line added, as is asked, on the state that is loaded. Assumes nothing.
 use mathlib.Core.Path.{refl}
-use Rattle.calls.proofs.Outcomes.{gives-choice, gives-line}
-use Rattle.calls.proofs.Loading.{ready-room}
-use Rattle.calls.proofs.take.Statement.{statement}
-use Rattle.calls.proofs.take.Tie as tie
+use Rattle.stepping.proofs.Answers.{ready-room, gives-choice, gives-line}
+use Rattle.stepping.proofs.take.Statement.{statement}
+use Rattle.stepping.proofs.take.Tie as tie
 
 -- the choice that was fixed, and the line that was added
 abbrev fixed : tie.After-slice-known19 → tie.After-bind

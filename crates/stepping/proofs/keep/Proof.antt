@@ -1,8 +1,8 @@
--- `calls::keep` meets its contract: what an accepted step leaves is stored, and nothing else. Assumes nothing.
+-- `stepping::keep` meets its contract: what an accepted step leaves is stored, and nothing else. Assumes nothing.
 use mathlib.Core.Path.{sym, _∙_}
-use Rattle.calls.proofs.Outcomes.{stored, not-stored}
-use Rattle.calls.proofs.keep.Statement.{statement}
-use Rattle.calls.proofs.keep.Tie as tie
+use Rattle.stepping.proofs.Answers.{stored, not-stored}
+use Rattle.stepping.proofs.keep.Statement.{statement}
+use Rattle.stepping.proofs.keep.Tie as tie
 
 store-requires : tie.Need-store-requires
 store-requires c κs =

@@ -1,5 +1,5 @@
 // The numbers of an area's layout and the limits, each once (docs/LAYOUT.md).
-// Functions below `fit` take the limits as parameters; only `fit` names the office's.
+// Functions below `office` take the limits as parameters; only `office` and `fit` name the office's.
 
 ghost use mathlib.Core.Path.{_≡_};
 ghost use Prim.Native.Nat.{suc, _≤_};

@@ -10,54 +10,32 @@ use layout::Limits;
 use steps::Stepped;
 use table::Placed;
 
-// Places the terms `l` and `r` in the loaded table of `m` entries and walks it through. `lefts`, `rights`, `heads` and `next` are
+// Places the terms `l` and `r` in the loaded table of `m` entries and walks it through. `ls`, `rs`, `hs` and `ns` are
 // scratch.
 fn grow(
     rows: &[u32],
     roots: &[u32],
     names: &[u32],
     entries: &mut [u32],
-    capacity: usize,
+    cap: usize,
     m: usize,
     l: u32,
     r: u32,
-    lefts: &mut [u32],
-    rights: &mut [u32],
-    heads: &mut [u32],
-    next: &mut [u32],
+    ls: &mut [u32],
+    rs: &mut [u32],
+    hs: &mut [u32],
+    ns: &mut [u32],
 ) -> Placed
-    requires { ⌜ GivenTable (ToGrow (now rows) (now roots) (now names) (now entries) (now lefts) (now rights) (now heads) (now next) capacity m l r) ⌝ }
-    ensures { λ p. ⌜ Whatever (ToGrow (now (rows .entry)) (now (roots .entry)) (now (names .entry)) (now (entries .entry)) (now (lefts .entry)) (now (rights .entry)) (now (heads .entry)) (now (next .entry)) capacity m l r)
-        (IsGrown (now (entries .exit)) (now (lefts .exit)) (now (rights .exit)) (now (heads .exit)) (now (next .exit)) capacity l r p) ⌝ }
+    requires { ⌜ GivenTable (ToGrow (now rows) (now roots) (now names) (now entries) (now ls) (now rs) (now hs) (now ns) cap m l r) ⌝ }
+    ensures { λ p. ⌜ Whatever (ToGrow (now (rows .entry)) (now (roots .entry)) (now (names .entry)) (now (entries .entry)) (now (ls .entry)) (now (rs .entry)) (now (hs .entry)) (now (ns .entry)) cap m l r)
+        (IsGrown (now (entries .exit)) (now (ls .exit)) (now (rs .exit)) (now (hs .exit)) (now (ns .exit)) cap l r p) ⌝ }
 {
-    saturate::index(names, entries, lefts, rights, heads, next, m);
-    let p = table::place(
-        names,
-        entries,
-        capacity,
-        m,
-        l,
-        r,
-        lefts,
-        rights,
-        heads,
-        next,
-    );
+    saturate::index(names, entries, ls, rs, hs, ns, m);
+    let p = table::place(names, entries, cap, m, l, r, ls, rs, hs, ns);
     if p.full {
         return p;
     }
-    let w = saturate::walk(
-        rows,
-        roots,
-        names,
-        entries,
-        capacity,
-        p.count,
-        lefts,
-        rights,
-        heads,
-        next,
-    );
+    let w = saturate::walk(rows, roots, names, entries, cap, p.count, ls, rs, hs, ns);
     Placed {
         entry: p.entry,
         count: w.count,
@@ -77,14 +55,14 @@ pub fn add_line(
     entries: &mut [u32],
     l: u32,
     r: u32,
-    lefts: &mut [u32],
-    rights: &mut [u32],
-    heads: &mut [u32],
-    next: &mut [u32],
+    ls: &mut [u32],
+    rs: &mut [u32],
+    hs: &mut [u32],
+    ns: &mut [u32],
 ) -> Stepped
     requires modest { ⌜ Modest (limitsOf lim) ⌝ }
     requires given { ⌜ GivenState (limitsOf lim) h (now rows) (now lines) (now entries) (now roots) (now names) ⌝ }
-    requires room { ⌜ Room (now lefts) (now rights) (now heads) (now next) (h .capacity) ⌝ }
+    requires room { ⌜ Room (now ls) (now rs) (now hs) (now ns) (h .capacity) ⌝ }
     ensures { λ s. ⌜ AddsLine (limitsOf lim) h (now (rows .entry)) (now (lines .entry)) (now (entries .entry)) (now (roots .entry)) (now (names .entry)) l r
         s (now (lines .exit)) (now (entries .exit)) ⌝ }
 {
@@ -98,22 +76,9 @@ pub fn add_line(
     if lim.lines <= k {
         return steps::refused(12);
     }
-    let capacity = h.capacity as usize;
+    let cap = h.capacity as usize;
     let m = h.entries as usize;
-    let g = grow(
-        rows,
-        roots,
-        names,
-        entries,
-        capacity,
-        m,
-        l,
-        r,
-        lefts,
-        rights,
-        heads,
-        next,
-    );
+    let g = grow(rows, roots, names, entries, cap, m, l, r, ls, rs, hs, ns);
     if g.full {
         return steps::refused(11);
     }

@@ -64,24 +64,24 @@ fn walk_and_settle(
     rows: &[u32],
     roots: &[u32],
     names: &[u32],
-    entries: &mut [u32],
+    es: &mut [u32],
     ls: &mut [u32],
     rs: &mut [u32],
-    heads: &mut [u32],
-    next: &mut [u32],
+    hs: &mut [u32],
+    ns: &mut [u32],
 ) -> Stepped
-    requires { ⌜ GivenTable (ToWalk (now rows) (now roots) (now names) (now entries) (now ls) (now rs) (now heads) (now next) (h .capacity) (h .entries)) ⌝ }
-    ensures { λ s. ⌜ Whatever (ToWalk (now (rows .entry)) (now (roots .entry)) (now (names .entry)) (now (entries .entry)) (now (ls .entry)) (now (rs .entry)) (now (heads .entry)) (now (next .entry)) (h .capacity) (h .entries))
-        (IsSettled h (now (entries .exit)) s) ⌝ }
+    requires { ⌜ GivenTable (ToWalk (now rows) (now roots) (now names) (now es) (now ls) (now rs) (now hs) (now ns) (h .capacity) (h .entries)) ⌝ }
+    ensures { λ s. ⌜ Whatever (ToWalk (now (rows .entry)) (now (roots .entry)) (now (names .entry)) (now (es .entry)) (now (ls .entry)) (now (rs .entry)) (now (hs .entry)) (now (ns .entry)) (h .capacity) (h .entries))
+        (IsSettled h (now (es .exit)) s) ⌝ }
 {
     let cap = h.capacity as usize;
     let m = h.entries as usize;
-    let w = saturate::walk(rows, roots, names, entries, cap, m, ls, rs, heads, next);
+    let w = saturate::walk(rows, roots, names, es, cap, m, ls, rs, hs, ns);
     if w.full {
         return steps::refused(11);
     }
     let count = w.count;
-    saturate::settle(entries, count, ls, rs, heads, next);
+    saturate::settle(es, count, ls, rs, hs, ns);
     Stepped {
         refusal: 0,
         first: w.turned as u32,
@@ -100,26 +100,26 @@ fn rebuild(
     list: &mut [u32],
     roots: &mut [u32],
     names: &mut [u32],
-    entries: &mut [u32],
+    es: &mut [u32],
     ls: &mut [u32],
     rs: &mut [u32],
-    heads: &mut [u32],
-    next: &mut [u32],
+    hs: &mut [u32],
+    ns: &mut [u32],
 ) -> Stepped
-    requires { ⌜ ToRebuild h (now rows) (now bindings) (now list) (now roots) (now names) (now entries) (now ls) (now rs) (now heads) (now next) ⌝ }
-    ensures { λ s. ⌜ IsSettled h (now (entries .exit)) s (bookOf (now (rows .entry)) (h .terms)) (boundOf (now (bindings .entry)) (h .terms)) (tableOf (now (entries .entry)) (h .entries)) ⌝ }
+    requires { ⌜ ToRebuild h (now rows) (now bindings) (now list) (now roots) (now names) (now es) (now ls) (now rs) (now hs) (now ns) ⌝ }
+    ensures { λ s. ⌜ IsSettled h (now (es .exit)) s (bookOf (now (rows .entry)) (h .terms)) (boundOf (now (bindings .entry)) (h .terms)) (tableOf (now (es .entry)) (h .entries)) ⌝ }
 {
     let n = h.terms;
-    if !state::name_terms(n, list, bindings, roots, names, ls, rows, rs, heads, next) {
+    if !state::name_terms(n, list, bindings, roots, names, ls, rows, rs, hs, ns) {
         return steps::refused(10);
     }
     let m = h.entries as usize;
-    saturate::index(names, entries, ls, rs, heads, next, m);
-    walk_and_settle(h, rows, roots, names, entries, ls, rs, heads, next)
+    saturate::index(names, es, ls, rs, hs, ns, m);
+    walk_and_settle(h, rows, roots, names, es, ls, rs, hs, ns)
 }
 
 // Binds the variable `v` to the term `t`: 8, 9, 10, 11, or how many entries turned and how many were appended. Where it is
-// refused, what the slices hold is left free; `ls`, `rs`, `heads` and `next` are scratch.
+// refused, what the slices hold is left free; `ls`, `rs`, `hs` and `ns` are scratch.
 pub fn bind(
     h: Header,
     rows: &[u32],
@@ -127,37 +127,25 @@ pub fn bind(
     list: &mut [u32],
     roots: &mut [u32],
     names: &mut [u32],
-    entries: &mut [u32],
+    es: &mut [u32],
     v: u32,
     t: u32,
     ls: &mut [u32],
     rs: &mut [u32],
-    heads: &mut [u32],
-    next: &mut [u32],
+    hs: &mut [u32],
+    ns: &mut [u32],
 ) -> Stepped
-    requires { ⌜ Given (Asked h (now rows) (now bindings) (now list) (now roots) (now names) (now entries) (now ls) (now rs) (now heads) (now next)) ⌝ }
+    requires { ⌜ Given (Asked h (now rows) (now bindings) (now list) (now roots) (now names) (now es) (now ls) (now rs) (now hs) (now ns)) ⌝ }
     ensures { λ s. ⌜ ((lim : Limits) (lines : List ℕ)
-        → Asked h (now (rows .entry)) (now (bindings .entry)) (now (list .entry)) (now (roots .entry)) (now (names .entry)) (now (entries .entry)) (now (ls .entry)) (now (rs .entry)) (now (heads .entry)) (now (next .entry)) lim lines
-        → Gives lim (Step.bind (loadedState (held h (now (rows .entry)) (now (bindings .entry)) lines (now (entries .entry)))) v t)
-        (s .refusal) (s .first ∷ s .second ∷ []) (held (after h s) (now (rows .entry)) (now (bindings .exit)) lines (now (entries .exit)))) ⌝ }
+        → Asked h (now (rows .entry)) (now (bindings .entry)) (now (list .entry)) (now (roots .entry)) (now (names .entry)) (now (es .entry)) (now (ls .entry)) (now (rs .entry)) (now (hs .entry)) (now (ns .entry)) lim lines
+        → Gives lim (Step.bind (loadedState (held h (now (rows .entry)) (now (bindings .entry)) lines (now (es .entry)))) v t)
+        (s .refusal) (s .first ∷ s .second ∷ []) (held (after h s) (now (rows .entry)) (now (bindings .exit)) lines (now (es .exit)))) ⌝ }
 {
-    let refusal = early_refusal(h.terms, rows, bindings, list, v, t, next);
+    let refusal = early_refusal(h.terms, rows, bindings, list, v, t, ns);
     if refusal != 0 {
         return steps::refused(refusal);
     }
     let i = v as usize;
     bindings[i] = t + 1;
-    rebuild(
-        h,
-        rows,
-        bindings,
-        list,
-        roots,
-        names,
-        entries,
-        ls,
-        rs,
-        heads,
-        next,
-    )
+    rebuild(h, rows, bindings, list, roots, names, es, ls, rs, hs, ns)
 }

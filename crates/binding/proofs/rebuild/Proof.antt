@@ -32,9 +32,9 @@ walk-at : (i : tie.After-index) →
     let n = i .before .before .before .before .before .before .before .before .before .before .before .before .before .before .before .before .before .before .before .before .before .before .before in
     let a = n .before .before .before .before .before .before .before .before .before .before .before .before .before .before .before .before .before .before .args in
     let h = a .h in
-    ToWalk (now (a .rows)) (n .name-terms .last .1 .1 .1 .0) (n .name-terms .last .1 .1 .1 .1 .0) (now (a .entries)) (i .index .last .1 .1 .0) (i .index .last .1 .1 .1 .0)
+    ToWalk (now (a .rows)) (n .name-terms .last .1 .1 .1 .0) (n .name-terms .last .1 .1 .1 .1 .0) (now (a .es)) (i .index .last .1 .1 .0) (i .index .last .1 .1 .1 .0)
     (i .index .last .1 .1 .1 .1 .0) (i .index .last .1 .1 .1 .1 .1 .0) (h .capacity) (h .entries) (bookOf (now (a .rows)) (h .terms))
-    (boundOf (now (a .bindings)) (h .terms)) (tableOf (now (a .entries)) (h .entries))
+    (boundOf (now (a .bindings)) (h .terms)) (tableOf (now (a .es)) (h .entries))
 walk-at i =
     let n = i .before .before .before .before .before .before .before .before .before .before .before .before .before .before .before .before .before .before .before .before .before .before .before in
     let k = n .name-terms .kept .1 .1 .1 .1 .1 in

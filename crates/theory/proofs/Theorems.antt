@@ -10,7 +10,7 @@ use lib.Seq.{take-append-seam}
 use lib.Dec.{T, eqb, ltb, leb, eqb→eq}
 use native.Mathlib.Omega.{arith}
 use borrow.Author.Tests.{eqb-false}
-use Rattle.model.specs.Limits.{Limits, office}
+use Rattle.model.specs.Limits.{Limits}
 use Rattle.model.specs.Term.{Book}
 use Rattle.model.specs.Step.{State, Answer, refused, accepted, bind, opened}
 use Rattle.model.specs.Report.{report, reportBytes, numberBytes}

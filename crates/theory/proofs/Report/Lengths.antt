@@ -21,7 +21,7 @@ use Rattle.model.specs.BookBytes.{parsed, parseBook, nodeNumbers, bookBytes}
 use Rattle.model.specs.Area.{soundState, sound, stateOf}
 use Rattle.model.specs.Call.{accept, guard, emit, callReport}
 use Rattle.theory.specs.Modest.{Modest}
-use Rattle.theory.specs.Lengths.{termMost, entryMost, bookMost, reportMost, longestBook, longestReport, longestSessionReport, Lengths}
+use Rattle.theory.specs.Lengths.{termMost, entryMost, bookMost, reportMost, longestReport, longestSessionReport, Lengths}
 use Rattle.theory.proofs.Soundness.Facts.{Formed, SoundFacts, KindRight}
 use Rattle.theory.proofs.Soundness.Test.{sound-facts, facts-sound}
 use Rattle.theory.proofs.Lists.Laws.{T-true, concatMap-append}

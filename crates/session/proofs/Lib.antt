@@ -1,0 +1,4 @@
+pub mod Numbers
+pub mod Progress
+pub mod Steps
+pub mod Theorems

@@ -4,7 +4,7 @@ use mathlib.Core.List.{List, [], _++_}
 use mathlib.Core.Bool.{Bool, true, false, cond}
 use Prim.Native.Nat.{ℕ, zero, suc, _+_, _-_, _≤_, _<_}
 use native.Mathlib.Omega.{arith}
-use lib.ListN.{length, drop, length-drop}
+use lib.ListN.{length, getD, drop, length-drop}
 use lib.Dec.{eqb, ltb}
 use borrow.Author.Tests.{le-ltb}
 use Rattle.leb128.specs.Number.{maxGroups, maxNumber, Read, number, cut, invalid, read}
@@ -17,7 +17,7 @@ use Rattle.model.specs.Call.{Outcome, callAdd, callBind, callReport}
 use Rattle.model.specs.Session.{Printed}
 use Rattle.session.specs.declared.Stepped.{Stepped}
 use Rattle.session.specs.declared.Stepped.the-variants.{Ended, Stopped, Refused, Added, Bound, Reported}
-use Rattle.session.specs.Steps.{Step, answered, still, added, bound, reported, orStop, withTwo, byNumber, stepAt, lines}
+use Rattle.session.specs.Steps.{Step, still, adds, binds, reports, addedBy, boundBy, reportedBy, orStop, withTwo, byNumber, stepAt, lines}
 use Rattle.session.specs.Whole.{Onward, onward, stepsFrom, allSteps, OneByOne, StepsGoOn}
 
 -- A number that was read ends behind its position, within the bytes.
@@ -52,14 +52,24 @@ module _ (input area out : List ℕ) where
   goes-number p Invalid at then l a h = tt
 
   -- a call's answer goes on at the position given
-  goes-answer : (p next : ℕ) (o : Outcome) (accepted : Stepped) → p < next → next ≤ length input
-      → Onward p (length input) accepted → Onward p (length input) (answered next o accepted)
-  unfolding answered
-  goes-answer p next o accepted h g k = go (eqb (o .refusal) 0)
-    where
-      go : (t : Bool) → Onward p (length input) (cond t accepted (Refused (o .refusal) next))
-      go true = k
-      go false = (h, g)
+  goes-answer : (p next n : ℕ) (accepted : Stepped) (t : Bool) → p < next → next ≤ length input
+      → Onward p (length input) accepted → Onward p (length input) (cond t accepted (Refused n next))
+  goes-answer p next n accepted true h g k = k
+  goes-answer p next n accepted false h g k = (h, g)
+
+  goes-added : (p : ℕ) (o : Outcome) (next : ℕ) → p < next → next ≤ length input → Onward p (length input) (addedBy o next)
+  unfolding addedBy
+  goes-added p o next h g = goes-answer p next (o .refusal) (Added (getD (o .numbers) 0 0) next) (eqb (o .refusal) 0) h g (h, g)
+
+  goes-bound : (p : ℕ) (o : Outcome) (next : ℕ) → p < next → next ≤ length input → Onward p (length input) (boundBy o next)
+  unfolding boundBy
+  goes-bound p o next h g =
+      goes-answer p next (o .refusal) (Bound (getD (o .numbers) 0 0) (getD (o .numbers) 1 0) next) (eqb (o .refusal) 0) h g (h, g)
+
+  goes-reported : (p : ℕ) (o : Outcome) (next : ℕ) → p < next → next ≤ length input → Onward p (length input) (reportedBy o next)
+  unfolding reportedBy
+  goes-reported p o next h g =
+      goes-answer p next (o .refusal) (Reported (getD (o .numbers) 0 0) next) (eqb (o .refusal) 0) h g (h, g)
 
   -- two numbers and a call
   goes-two : (p at : ℕ) (then : ℕ → ℕ → ℕ → Step) → p ≤ at → at ≤ length input
@@ -71,15 +81,13 @@ module _ (input area out : List ℕ) where
       (λ n next l″ r″. h m n next l″ r″))
 
   goes-by-number : (p n at : ℕ) → p < at → at ≤ length input → Goes p (byNumber input area out n at)
-  unfolding byNumber added bound reported still
+  unfolding byNumber adds binds reports still
   goes-by-number p zero at l r = tt
   goes-by-number p (suc zero) at l r =
-      goes-two p at _ (omega arith) r
-      (λ i j next l′ r′. goes-answer p next (callAdd office area i j) (Added _ next) l′ r′ (l′, r′))
+      goes-two p at (adds input area out) (omega arith) r (λ i j. goes-added p (callAdd office area i j))
   goes-by-number p (suc (suc zero)) at l r =
-      goes-two p at _ (omega arith) r
-      (λ i j next l′ r′. goes-answer p next (callBind office area i j) (Bound _ _ next) l′ r′ (l′, r′))
-  goes-by-number p (suc (suc (suc zero))) at l r = goes-answer p at (callReport office area out) (Reported _ at) l r (l, r)
+      goes-two p at (binds input area out) (omega arith) r (λ i j. goes-bound p (callBind office area i j))
+  goes-by-number p (suc (suc (suc zero))) at l r = goes-reported p (callReport office area out) at l r
   goes-by-number p (suc (suc (suc (suc n)))) at l r = tt
 
   -- a step

@@ -1,12 +1,12 @@
 -- The steps on bytes print what the session's steps on states print. Assumes nothing.
 use mathlib.Core.Path.{_≡_, refl, ap, sym, _∙_}
 use mathlib.Core.List.{List, [], _∷_, _++_}
-use mathlib.Core.Bool.{Bool, true, false}
+use mathlib.Core.Bool.{Bool, true, false, cond}
 use Prim.Native.Nat.{ℕ, zero, suc, _+_, _≤_, _<_}
 use native.Mathlib.Omega.{arith}
 use lib.ListN.{length, getD, take, drop, length-append, length-drop, drop-of-length-le}
 use lib.Seq.{take-append-seam}
-use lib.Dec.{ltb}
+use lib.Dec.{eqb, ltb}
 use borrow.Author.Tests.{ltb-true, ltb-false, le-leb}
 use Rattle.leb128.specs.Number.{maxGroups, maxNumber}
 use Rattle.leb128.specs.Answer.{readAt}
@@ -28,8 +28,8 @@ use Rattle.theory.proofs.Runs.Simulation.{Lives, stepped-refusal, call-lives, f
 use Rattle.theory.proofs.Theorems.{office-modest, lengths, demand-1}
 use Rattle.book.proofs.Parsing.{numberOf as readOf, number-read}
 use Rattle.session.specs.declared.Stepped.{Stepped}
-use Rattle.session.specs.declared.Stepped.the-variants.{Added, Bound}
-use Rattle.session.specs.Steps.{Step, numbersIn, answered, numberOf, still, added, bound, reported, orStop, withTwo, byNumber, stepAt, lines}
+use Rattle.session.specs.declared.Stepped.the-variants.{Refused, Added, Bound}
+use Rattle.session.specs.Steps.{Step, numbersIn, still, adds, binds, reports, addedBy, boundBy, reportedBy, orStop, withTwo, byNumber, stepAt, lines}
 use Rattle.session.specs.Whole.{onward, stepsFrom}
 use Rattle.session.proofs.Numbers.{numbers-in}
 use Rattle.session.proofs.Progress.{past-end}
@@ -86,9 +86,10 @@ module _ (input : List ℕ) (k : ℕ)
       after-held : Held (after s a) (o .area) out
 
     same-answer : (a : Answer) (o : Outcome) (accepting : Stepped) (at : ℕ) → Answers a o accepting at
-        → Model.answered s a (λ s′. steps k s′ (drop at input)) ≡
-        lines (answered at o accepting) out ++ onward (answered at o accepting) (λ next. stepsFrom input k next (o .area) out)
-    unfolding Model.answered answered lines onward
+        → let answer = cond (eqb (o .refusal) 0) accepting (Refused (o .refusal) at) in
+        Model.answered s a (λ s′. steps k s′ (drop at input)) ≡
+        lines answer out ++ onward answer (λ next. stepsFrom input k next (o .area) out)
+    unfolding Model.answered lines onward
     same-answer (refused n) o accepting at h =
         rw (h .refusal, refusal-zero (refused n) (h .numbered)) (ap (λ x. (n ∷ []) ∷ x) (ih at s (o .area) out (h .after-held)))
     same-answer (accepted ns s′) o accepting at h =
@@ -106,12 +107,12 @@ module _ (input : List ℕ) (k : ℕ)
 
     -- a line
     same-added : (l r at : ℕ) → Model.answered s (addLine office s l r) (λ s′. steps k s′ (drop at input)) ≡
-        shown (added input area out (callAdd office area l r) at)
-    unfolding added call lines onward numberOf
+        shown (adds input area out l r at)
+    unfolding adds addedBy call lines onward
     same-added l r at =
         let o : Outcome = callAdd office area l r in
         let on : o ≡ stepped office 1 area (addLine office s l r) = call-lives office office-modest s area (add l r) (held .lives) in
-        same-answer (addLine office s l r) o (Added (numberOf o 0) at) at
+        same-answer (addLine office s l r) o (Added (getD (o .numbers) 0 0) at) at
         (record {
           refusal = ap (λ x. x .refusal) on ∙ stepped-refusal office 1 area (addLine office s l r);
           numbered = answer-numbered office s (add l r);
@@ -124,12 +125,12 @@ module _ (input : List ℕ) (k : ℕ)
 
     -- a choice
     same-bound : (v t at : ℕ) → Model.answered s (bind s v t) (λ s′. steps k s′ (drop at input)) ≡
-        shown (bound input area out (callBind office area v t) at)
-    unfolding bound call lines onward numberOf
+        shown (binds input area out v t at)
+    unfolding binds boundBy call lines onward
     same-bound v t at =
         let o : Outcome = callBind office area v t in
         let on : o ≡ stepped office 2 area (bind s v t) = call-lives office office-modest s area (fix v t) (held .lives) in
-        same-answer (bind s v t) o (Bound (numberOf o 0) (numberOf o 1) at) at
+        same-answer (bind s v t) o (Bound (getD (o .numbers) 0 0) (getD (o .numbers) 1 0) at) at
         (record {
           refusal = ap (λ x. x .refusal) on ∙ stepped-refusal office 2 area (bind s v t);
           numbered = answer-numbered office s (fix v t);
@@ -169,8 +170,8 @@ module _ (input : List ℕ) (k : ℕ)
           room = rw (length-append, length-drop) (omega (arith, report-fits, held .room));
         }
 
-    same-report : (at : ℕ) → (0 ∷ report s) ∷ steps k s (drop at input) ≡ shown (reported input area out (callReport office area out) at)
-    unfolding reported lines onward answered numberOf accept
+    same-report : (at : ℕ) → (0 ∷ report s) ∷ steps k s (drop at input) ≡ shown (reports input area out at)
+    unfolding reports reportedBy lines onward accept
     same-report at =
         rw (report-outcome, report-numbers) (ap (λ x. (0 ∷ report s) ∷ x) (ih at s area (over (reportBytes s) out) report-held))
 
@@ -198,9 +199,9 @@ module _ (input : List ℕ) (k : ℕ)
     unfolding Model.step byNumber still lines onward
     same-by-number zero at = refl
     same-by-number (suc zero) at =
-        two-at at (λ l r rest. Model.answered s (addLine office s l r) (λ s′. steps k s′ rest)) (λ l r. added input area out (callAdd office area l r)) same-added
+        two-at at (λ l r rest. Model.answered s (addLine office s l r) (λ s′. steps k s′ rest)) (adds input area out) same-added
     same-by-number (suc (suc zero)) at =
-        two-at at (λ v t rest. Model.answered s (bind s v t) (λ s′. steps k s′ rest)) (λ v t. bound input area out (callBind office area v t)) same-bound
+        two-at at (λ v t rest. Model.answered s (bind s v t) (λ s′. steps k s′ rest)) (binds input area out) same-bound
     same-by-number (suc (suc (suc zero))) at = same-report at
     same-by-number (suc (suc (suc (suc n)))) at = refl
 

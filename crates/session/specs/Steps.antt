@@ -53,28 +53,31 @@ pub record Step : Type 0 where
   pub area : List ℕ
   pub output : List ℕ
 
--- a call's answer: its numbers, or its refusal; in either case the session goes on
-unfoldable pub answered : ℕ → Outcome → Stepped → Stepped
-answered next o accepted = cond (eqb (o .refusal) 0) accepted (Refused (o .refusal) next)
+-- A line's answer, a choice's and a report's, by the outcome of its call: the answer's numbers, or its refusal. In either case the
+-- session goes on.
+unfoldable pub addedBy : Outcome → ℕ → Stepped
+addedBy o next = cond (eqb (o .refusal) 0) (Added (getD (o .numbers) 0 0) next) (Refused (o .refusal) next)
 
--- number i of a call's answer
-unfoldable pub numberOf : Outcome → ℕ → ℕ
-numberOf o i = getD (o .numbers) i 0
+unfoldable pub boundBy : Outcome → ℕ → Stepped
+boundBy o next = cond (eqb (o .refusal) 0) (Bound (getD (o .numbers) 0 0) (getD (o .numbers) 1 0) next) (Refused (o .refusal) next)
+
+unfoldable pub reportedBy : Outcome → ℕ → Stepped
+reportedBy o next = cond (eqb (o .refusal) 0) (Reported (getD (o .numbers) 0 0) next) (Refused (o .refusal) next)
 
 module _ (input area out : List ℕ) where
   -- an answer that leaves area and output
   unfoldable pub still : Stepped → Step
   still answer = record { answer = answer; area = area; output = out }
 
-  -- a line, a choice and a report, by the outcomes of their calls
-  unfoldable pub added : Outcome → ℕ → Step
-  added o next = record { answer = answered next o (Added (numberOf o 0) next); area = o .area; output = out }
+  -- a line, a choice and a report
+  unfoldable pub adds : ℕ → ℕ → ℕ → Step
+  adds l r next = let o = callAdd office area l r in record { answer = addedBy o next; area = o .area; output = out }
 
-  unfoldable pub bound : Outcome → ℕ → Step
-  bound o next = record { answer = answered next o (Bound (numberOf o 0) (numberOf o 1) next); area = o .area; output = out }
+  unfoldable pub binds : ℕ → ℕ → ℕ → Step
+  binds v t next = let o = callBind office area v t in record { answer = boundBy o next; area = o .area; output = out }
 
-  unfoldable pub reported : Outcome → ℕ → Step
-  reported o next = record { answer = answered next o (Reported (numberOf o 0) next); area = o .area; output = o .output }
+  unfoldable pub reports : ℕ → Step
+  reports next = let o = callReport office area out in record { answer = reportedBy o next; area = o .area; output = o .output }
 
   -- What follows the number at a position, with the position after it; where there is none, its refusal stops the session.
   unfoldable pub orStop : Decoded → (ℕ → ℕ → Step) → Step
@@ -92,9 +95,9 @@ module _ (input area out : List ℕ) where
   -- A step by its number: 1 l r adds a line, 2 v t fixes a choice, 3 reports; any other is 8 and stops the session.
   unfoldable pub byNumber : ℕ → ℕ → Step
   byNumber zero at = still (Stopped 8)
-  byNumber (suc zero) at = withTwo at (λ l r. added (callAdd office area l r))
-  byNumber (suc (suc zero)) at = withTwo at (λ v t. bound (callBind office area v t))
-  byNumber (suc (suc (suc zero))) at = reported (callReport office area out) at
+  byNumber (suc zero) at = withTwo at adds
+  byNumber (suc (suc zero)) at = withTwo at binds
+  byNumber (suc (suc (suc zero))) at = reports at
   byNumber (suc (suc (suc (suc n)))) at = still (Stopped 8)
 
   -- The step at a position; where the input has ended there is none.

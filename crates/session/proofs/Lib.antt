@@ -1,4 +1,5 @@
 pub mod Numbers
+pub mod Opening
 pub mod Progress
 pub mod Steps
 pub mod Theorems

@@ -1,5 +1,5 @@
 -- Every step takes at least a byte, so the steps end. Assumes nothing.
-use mathlib.Core.Path.{_≡_, refl, ap, sym}
+use mathlib.Core.Path.{_≡_, refl, ap, sym, _∙_}
 use mathlib.Core.List.{List, [], _++_}
 use mathlib.Core.Bool.{Bool, true, false, cond}
 use Prim.Native.Nat.{ℕ, zero, suc, _+_, _-_, _≤_, _<_}
@@ -37,6 +37,11 @@ read-ahead bytes at = go (read maxGroups maxNumber (drop at bytes)) refl
         (omega arith, omega arith)
     go cut e = tt
     go invalid e = tt
+
+-- so by the reader's answer
+pub number-ahead : (bytes : List ℕ) (at : ℕ) {r : Decoded} {n next : ℕ} → r ≡ readAt maxGroups maxNumber bytes at → r ≡ Number n next
+    → (at < next) × (next ≤ length bytes)
+number-ahead bytes at e q = rw (sym e ∙ q) at (read-ahead bytes at)
 
 module _ (input area out : List ℕ) where
   -- a step goes on behind p, within the input

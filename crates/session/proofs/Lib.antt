@@ -1,4 +1,3 @@
-pub mod Numbers
 pub mod Opening
 pub mod Progress
 pub mod Steps

@@ -15,33 +15,11 @@ use Rattle.leb128.proofs.Laws.{rest-is-a-tail}
 use Rattle.model.specs.Limits.{office}
 use Rattle.model.specs.Call.{Outcome, callAdd, callBind, callReport}
 use Rattle.model.specs.Session.{Printed}
+use Rattle.text.proofs.Numbers.{Ahead, read-ahead}
 use Rattle.session.specs.declared.Stepped.{Stepped}
 use Rattle.session.specs.declared.Stepped.the-variants.{Ended, Stopped, Refused, Added, Bound, Reported}
 use Rattle.session.specs.Steps.{Step, still, adds, binds, reports, addedBy, boundBy, reportedBy, orStop, withTwo, byNumber, stepAt, lines}
 use Rattle.session.specs.Whole.{Onward, onward, stepsFrom, allSteps, OneByOne, StepsGoOn}
-
--- A number that was read ends behind its position, within the bytes.
-abbrev Ahead : ℕ → ℕ → Decoded → Type 0
-Ahead at size (Number n next) = (at < next) × (next ≤ size)
-Ahead at size Cut = Unit {0}
-Ahead at size Invalid = Unit {0}
-
-pub read-ahead : (bytes : List ℕ) (at : ℕ) → Ahead at (length bytes) (readAt maxGroups maxNumber bytes at)
-unfolding readAt placed
-read-ahead bytes at = go (read maxGroups maxNumber (drop at bytes)) refl
-  where
-    go : (r : Read) → read maxGroups maxNumber (drop at bytes) ≡ r → Ahead at (length bytes) (placed (length bytes) r)
-    go (number n rest) e =
-        let short : length rest < length bytes - at =
-        rw length-drop at (rest-is-a-tail maxGroups maxNumber (drop at bytes) n rest e .0) in
-        (omega arith, omega arith)
-    go cut e = tt
-    go invalid e = tt
-
--- so by the reader's answer
-pub number-ahead : (bytes : List ℕ) (at : ℕ) {r : Decoded} {n next : ℕ} → r ≡ readAt maxGroups maxNumber bytes at → r ≡ Number n next
-    → (at < next) × (next ≤ length bytes)
-number-ahead bytes at e q = rw (sym e ∙ q) at (read-ahead bytes at)
 
 module _ (input area out : List ℕ) where
   -- a step goes on behind p, within the input

@@ -27,11 +27,12 @@ use Rattle.theory.proofs.Runs.States.{refusalOf, Numbered, refusal-zero, answer
 use Rattle.theory.proofs.Runs.Simulation.{Lives, stepped-refusal, call-lives, follows}
 use Rattle.theory.proofs.Theorems.{office-modest, lengths, demand-1}
 use Rattle.book.proofs.Parsing.{numberOf as readOf, number-read}
+use Rattle.text.specs.Text.{numbersIn}
+use Rattle.text.proofs.Numbers.{numbers-in}
 use Rattle.session.specs.declared.Stepped.{Stepped}
 use Rattle.session.specs.declared.Stepped.the-variants.{Refused, Added, Bound}
-use Rattle.session.specs.Steps.{Step, numbersIn, still, adds, binds, reports, addedBy, boundBy, reportedBy, orStop, withTwo, byNumber, stepAt, lines}
+use Rattle.session.specs.Steps.{Step, still, adds, binds, reports, addedBy, boundBy, reportedBy, orStop, withTwo, byNumber, stepAt, lines}
 use Rattle.session.specs.Whole.{onward, stepsFrom}
-use Rattle.session.proofs.Numbers.{numbers-in}
 use Rattle.session.proofs.Progress.{past-end}
 
 -- The area carries the sound state s of the session's capacity, and the output has space for its report.

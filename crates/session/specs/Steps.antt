@@ -5,13 +5,14 @@ use mathlib.Core.Bool.{cond}
 use Prim.Native.Nat.{ℕ, zero, suc, _+_, _-_}
 use lib.ListN.{length, getD, take, drop}
 use lib.Dec.{eqb, ltb, leb}
-use Rattle.leb128.specs.Number.{maxGroups, maxNumber, Read, number, cut, invalid, read}
+use Rattle.leb128.specs.Number.{maxGroups, maxNumber}
 use Rattle.leb128.specs.Answer.{readAt}
 use Rattle.leb128.specs.declared.Decoded.{Decoded}
 use Rattle.leb128.specs.declared.Decoded.the-variants.{Number, Cut, Invalid}
 use Rattle.model.specs.Limits.{office, maxSession, sessionCapacity}
 use Rattle.model.specs.Call.{Outcome, callOpen, callAdd, callBind, callReport}
 use Rattle.model.specs.Session.{Printed}
+use Rattle.text.specs.Text.{numbersIn}
 use Rattle.session.specs.declared.Begun.{Begun}
 use Rattle.session.specs.declared.Begun.the-variants.{Refused as NotBegun, At}
 use Rattle.session.specs.declared.Stepped.{Stepped}
@@ -105,19 +106,6 @@ module _ (input area out : List ℕ) where
   stepAt at = cond (ltb at (length input)) (withNumber at byNumber) (still Ended)
 
 -- ---- WHAT IS PRINTED.
-
--- The numbers that bytes hold, one after the other, at most k.
-unfoldable pub consRead : Read → (List ℕ → List ℕ) → List ℕ
-consRead (number n rest) next = n ∷ next rest
-consRead cut next = []
-consRead invalid next = []
-
-unfoldable pub readNumbers : ℕ → List ℕ → List ℕ
-readNumbers zero bytes = []
-readNumbers (suc k) bytes = consRead (read maxGroups maxNumber bytes) (readNumbers k)
-
-abbrev pub numbersIn : List ℕ → List ℕ
-numbersIn bytes = readNumbers (length bytes) bytes
 
 -- Document 01's numbers for each answer: 0 and the answer's numbers, or the refusal alone. A report's are those that it wrote into
 -- the output.

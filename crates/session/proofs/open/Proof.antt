@@ -3,9 +3,9 @@
 use mathlib.Core.Path.{refl}
 use borrow.Author.Needs.{needs}
 use denote.Ref.{now}
+use Rattle.text.proofs.Numbers.{number-ahead}
 use Rattle.session.specs.Steps.{openBook, notBegun}
 use Rattle.session.proofs.Opening.{too-long, opens-by}
-use Rattle.session.proofs.Progress.{number-ahead}
 use Rattle.session.proofs.open.Statement.{statement}
 use Rattle.session.proofs.open.Tie as tie
 

@@ -1,10 +1,15 @@
 // A session over lent bytes: opening it, and one step of it (specs/Steps.antt; docs/SPEC.md, "Sessions").
 
+pub mod print;
+
 ghost use mathlib.Core.Path.{_≡_};
 ghost use Prim.Native.Nat.{_≤_};
 ghost use lib.ListN.{length};
 ghost use Rattle.leb128.specs.declared.Decoded.the-variants.{Number};
-ghost use Rattle.session.specs.Steps.{openBook, start};
+ghost use Rattle.model.specs.Limits.{office};
+ghost use Rattle.model.specs.Call.{callAdd, callBind, callReport};
+ghost use Rattle.session.specs.Steps.{openBook, start, addedBy, boundBy, reportedBy, byNumber, stepAt};
+ghost use Rattle.session.specs.Parts.{pairAt};
 
 // The longest session in bytes, and the capacity of its area.
 pub const LONGEST: usize = 65536;
@@ -46,6 +51,16 @@ pub enum Stepped {
     },
 }
 
+// Two numbers and the position after them, or the refusal of the first that is none.
+pub enum Pair {
+    Numbers {
+        first: u32,
+        second: u32,
+        next: usize,
+    },
+    Refused(u32),
+}
+
 // Opens a session: 4 for one that is too long, the refusal of the book's length, and then the book's.
 pub fn open(input: &[u8], area: &mut [u8]) -> Begun
     ensures answer { λ r. ⌜ r ≡ start (now (input .entry)) (now (area .entry)) .answer ⌝ }
@@ -76,4 +91,26 @@ fn open_book(input: &[u8], at: usize, size: usize, area: &mut [u8]) -> Begun
         return Begun::Refused(refusal);
     }
     Begun::At(end)
+}
+
+// The two numbers at position `at`.
+fn two_numbers(input: &[u8], at: usize) -> Pair
+    ensures { λ r. ⌜ r ≡ pairAt (now (input .entry)) at ⌝ }
+{
+    match leb128::read(input, at) {
+        leb128::Decoded::Number { value, next } => match leb128::read(input, next) {
+            leb128::Decoded::Number {
+                value: second,
+                next: end,
+            } => Pair::Numbers {
+                first: value,
+                second,
+                next: end,
+            },
+            leb128::Decoded::Cut => Pair::Refused(1),
+            leb128::Decoded::Invalid => Pair::Refused(2),
+        },
+        leb128::Decoded::Cut => Pair::Refused(1),
+        leb128::Decoded::Invalid => Pair::Refused(2),
+    }
 }

@@ -118,6 +118,35 @@ spaced-short : (n : ℕ) → n ≤ maxNumber → length (spaced n) ≤ numberMos
 unfolding spaced
 spaced-short n h = omega (arith, small-short n (omega arith))
 
+-- the numbers of so many bytes
+parse-small : (bytes : List ℕ) (n : ℕ) (rest : List ℕ) → parseNumber bytes ≡ parsed n rest → n ≤ maxNumber
+unfolding parseNumber fromRead
+parse-small bytes n rest e = go (read maxGroups maxNumber bytes) refl
+  where
+    go : (r : Read) → read maxGroups maxNumber bytes ≡ r → n ≤ maxNumber
+    go (number m l) q =
+        let same : parsed m l ≡ parsed n rest = rw q at e in
+        let eq : m ≡ n = cc in
+        rw eq at (within-the-limit maxGroups maxNumber bytes m l q)
+    go cut q = let same : unparsed 1 ≡ parsed n rest = rw q at e in let z : _≡_ {A = ℕ} 0 1 = cc in absurd (omega arith)
+    go invalid q = let same : unparsed 2 ≡ parsed n rest = rw q at e in let z : _≡_ {A = ℕ} 0 1 = cc in absurd (omega arith)
+
+cons-short : (w : ℕ) (p : Parsed ℕ) (f : List ℕ → List ℕ) → ((n : ℕ) (rest : List ℕ) → p ≡ parsed n rest → n ≤ maxNumber)
+    → ((rest : List ℕ) → length (following (f rest)) ≤ w) → length (following (consNumber p f)) ≤ numberMost + w
+unfolding consNumber following concatMap
+cons-short w (parsed n rest) f h g = rw length-append (omega (arith, spaced-short n (h n rest refl), g rest))
+cons-short w (unparsed m) f h g = zero-le
+
+read-short : (k : ℕ) (bytes : List ℕ) → length (following (readNumbers k bytes)) ≤ numberMost * k
+unfolding readNumbers following concatMap
+read-short zero bytes = zero-le
+read-short (suc k) bytes =
+    omega (arith, cons-short (numberMost * k) (parseNumber bytes) (readNumbers k) (parse-small bytes) (read-short k))
+
+pub following-short : (bytes : List ℕ) → length (following (numbersIn bytes)) ≤ numberMost * length bytes
+unfolding numbersIn
+following-short bytes = read-short (length bytes) bytes
+
 -- The numbers up to position pos are written from place `at` of `old` on, which gives `text`, and `next` is the place behind them.
 pub record Shown (bytes old : List ℕ) (at : ℕ) (text : List ℕ) (next pos : ℕ) : Type 0 where
   pub within : pos ≤ length bytes

@@ -18,7 +18,7 @@ use Rattle.model.specs.Session.{Printed}
 use Rattle.text.proofs.Numbers.{Ahead, read-ahead}
 use Rattle.session.specs.declared.Stepped.{Stepped}
 use Rattle.session.specs.declared.Stepped.the-variants.{Ended, Stopped, Refused, Added, Bound, Reported}
-use Rattle.session.specs.Steps.{Step, still, adds, binds, reports, addedBy, boundBy, reportedBy, orStop, withTwo, byNumber, stepAt, lines}
+use Rattle.session.specs.Steps.{Step, still, adds, binds, reports, addedBy, boundBy, reportedBy, orStop, withTwo, byNumber, stepAt, nextOr, lines}
 use Rattle.session.specs.Whole.{Onward, onward, stepsFrom, allSteps, OneByOne, StepsGoOn}
 
 module _ (input area out : List ℕ) where
@@ -121,3 +121,13 @@ pub one-by-one : OneByOne
 unfolding allSteps stepsFrom
 one-by-one input at area out =
     steps-enough input (length input) (suc (length input)) at area out (omega arith) (omega arith)
+
+-- so the position at which a step leaves a session lies behind, and the end of the input where the session is over
+pub goes-behind : (p n : ℕ) (a : Stepped) → Onward p n a → p < n → (p < nextOr n a) × (nextOr n a ≤ n)
+unfolding nextOr
+goes-behind p n Ended o h = (h, omega arith)
+goes-behind p n (Stopped k) o h = (h, omega arith)
+goes-behind p n (Refused k next) o h = o
+goes-behind p n (Added i next) o h = o
+goes-behind p n (Bound i j next) o h = o
+goes-behind p n (Reported k next) o h = o

@@ -2,7 +2,6 @@
 use mathlib.Core.Path.{_≡_, refl, ap, sym, _∙_}
 use mathlib.Core.List.{List, [], _∷_}
 use mathlib.Core.Bool.{cond}
-use mathlib.Core.Logic.{_⊎_, inl, inr}
 use Prim.Native.Nat.{ℕ, zero, suc, _≤_, _<_}
 use native.Mathlib.Omega.{arith}
 use lib.ListN.{length, getD}
@@ -70,13 +69,13 @@ module _ (o : Outcome) (next r : ℕ) (e : r ≡ o .refusal) where
 
 -- STEPS. The answer, the area and the output are those of the step s.
 abbrev pub Takes : Stepped → List ℕ → List ℕ → Step → Type 0
-Takes r area out s = (r ≡ s .answer) × (area ≡ s .area) × (out ≡ s .output)
+Takes r area out s = (r ≡ s .answer) × ((area ≡ s .area) × (out ≡ s .output))
 
 module _ (input area out : List ℕ) where
   -- a step that leaves all as it was
   pub stays : (answer : Stepped) (s : Step) → s ≡ still input area out answer → Takes answer area out s
   unfolding still
-  stays answer s e = rw e (refl, refl, refl)
+  stays answer s e = rw e (refl, (refl, refl))
 
   -- the step after two numbers
   abbrev afterPair : Pair → (ℕ → ℕ → ℕ → Step) → Step
@@ -119,7 +118,7 @@ module _ (input area out : List ℕ) where
         → (r ≡ reportedBy (callReport office area out) at) × (out′ ≡ callReport office area out .output)
         → Takes r area out′ (byNumber input area out n at)
     unfolding byNumber reports
-    step-reports h e = rw h (e .0, sym (demand-1 .reporting office area out .1), e .1)
+    step-reports h e = rw h (e .0, (sym (demand-1 .reporting office area out .1), e .1))
 
     -- a line and a choice, by their two numbers
     module _ {p : Pair} (e : p ≡ pairAt input at) where
@@ -127,29 +126,32 @@ module _ (input area out : List ℕ) where
           → (s ≡ addedBy (callAdd office area l r) next) × (area′ ≡ callAdd office area l r .area)
           → Takes s area′ out (byNumber input area out n at)
       unfolding byNumber adds
-      step-adds h q g = rw (h, two-by-pair at (adds input area out) e q) (g .0, g .1, refl)
+      step-adds h q g = rw (h, two-by-pair at (adds input area out) e q) (g .0, (g .1, refl))
 
       pub step-binds : n ≡ 2 → {v t next : ℕ} → p ≡ Numbers v t next → {s : Stepped} {area′ : List ℕ}
           → (s ≡ boundBy (callBind office area v t) next) × (area′ ≡ callBind office area v t .area)
           → Takes s area′ out (byNumber input area out n at)
       unfolding byNumber binds
-      step-binds h q g = rw (h, two-by-pair at (binds input area out) e q) (g .0, g .1, refl)
+      step-binds h q g = rw (h, two-by-pair at (binds input area out) e q) (g .0, (g .1, refl))
 
       -- what is no number stops both
-      stops : (n : ℕ) → (n ≡ 1) ⊎ (n ≡ 2) → {k : ℕ} → p ≡ NoPair k → byNumber input area out n at ≡ still input area out (Stopped k)
+      stops : (n : ℕ) → 1 ≤ n → n ≤ 2 → {k : ℕ} → p ≡ NoPair k → byNumber input area out n at ≡ still input area out (Stopped k)
       unfolding byNumber
-      stops n (inl h) q = rw h (two-by-pair at (adds input area out) e q)
-      stops n (inr h) q = rw h (two-by-pair at (binds input area out) e q)
+      stops zero h g q = absurd (omega arith)
+      stops (suc zero) h g q = two-by-pair at (adds input area out) e q
+      stops (suc (suc zero)) h g q = two-by-pair at (binds input area out) e q
+      stops (suc (suc (suc n))) h g q = absurd (omega arith)
 
-      pub step-stops : (n ≡ 1) ⊎ (n ≡ 2) → {k : ℕ} → p ≡ NoPair k → Takes (Stopped k) area out (byNumber input area out n at)
-      step-stops h {k} q = stays (Stopped k) _ (stops n h q)
+      pub step-stops : 1 ≤ n → n ≤ 2 → {k : ℕ} → p ≡ NoPair k → Takes (Stopped k) area out (byNumber input area out n at)
+      step-stops h g {k} q = stays (Stopped k) _ (stops n h g q)
 
   -- the step at a position
   pub step-ended : (at : ℕ) → length input ≤ at → Takes Ended area out (stepAt input area out at)
   unfolding stepAt
   step-ended at h = stays Ended _ (rw (le-ltb at (length input) h))
 
-  pub step-at : (at : ℕ) → at < length input → {r d : Decoded} → r ≡ readAt maxGroups maxNumber input at → r ≡ d
-      → stepAt input area out at ≡ orStop input area out d (byNumber input area out)
+  pub step-by : (at : ℕ) → at < length input → {r d : Decoded} → r ≡ readAt maxGroups maxNumber input at → r ≡ d
+      → {answer : Stepped} {area′ out′ : List ℕ} → Takes answer area′ out′ (orStop input area out d (byNumber input area out))
+      → Takes answer area′ out′ (stepAt input area out at)
   unfolding stepAt
-  step-at at h e q = rw (lt-ltb at (length input) h, ← e, q)
+  step-by at h e q t = rw (lt-ltb at (length input) h, ← e, q) t

@@ -105,6 +105,15 @@ module _ (input area out : List ℕ) where
   unfoldable pub stepAt : ℕ → Step
   stepAt at = cond (ltb at (length input)) (withNumber at byNumber) (still Ended)
 
+-- The position at which the session goes on after an answer, and `over` where it is over.
+unfoldable pub nextOr : ℕ → Stepped → ℕ
+nextOr over Ended = over
+nextOr over (Stopped n) = over
+nextOr over (Refused n next) = next
+nextOr over (Added i next) = next
+nextOr over (Bound m n next) = next
+nextOr over (Reported n next) = next
+
 -- ---- WHAT IS PRINTED.
 
 -- Document 01's numbers for each answer: 0 and the answer's numbers, or the refusal alone. A report's are those that it wrote into

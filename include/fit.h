@@ -19,6 +19,10 @@ uint32_t fit_open(uint32_t capacity, const uint8_t *book, size_t book_length, ui
    refusal 7 or 8 and zeros in fields. */
 uint32_t fit_entry(const uint8_t *area, size_t area_length, uint32_t i, uint32_t fields[14]);
 
+/* Writes the area's report to out. Gives 0 and the number of bytes in *written, or refusal 7 or 13 and 0 in *written; a refusal
+   changes no byte of out. */
+uint32_t fit_report(const uint8_t *area, size_t area_length, uint8_t *out, size_t out_length, uint32_t *written);
+
 /* Writes the area's book to out; choices are not written. Gives 0 and the number of bytes in *written, or refusal 7 or 13 and 0
    in *written; a refusal changes no byte of out. */
 uint32_t fit_write(const uint8_t *area, size_t area_length, uint8_t *out, size_t out_length, uint32_t *written);

@@ -1,5 +1,6 @@
 pub mod Opened
 pub mod OpenCases
-pub mod Emitted
+pub mod BookHeld
 pub mod Copied
+pub mod Written
 pub mod EntryCases

@@ -1,14 +1,13 @@
 // The calls that are offered to others. None has a `requires`: what is wrong is refused by its number (docs/C-API.md).
 
 ghost use mathlib.Core.Path.{_≡_};
-ghost use mathlib.Core.Bool.{true};
 ghost use mathlib.Core.List.{[], _∷_};
 ghost use Prim.Native.Nat.{_*_, _≤_};
 ghost use lib.ListN.{length};
 ghost use Rattle.model.specs.Limits.{office};
 ghost use Rattle.model.specs.Lists.{concatMap};
-ghost use Rattle.model.specs.Area.{wordSize, termWords, entryRowWords, toBytes, areaLength, sound};
-ghost use Rattle.model.specs.Call.{over, emit, callOpen, callCopy, callEntry, callWrite};
+ghost use Rattle.model.specs.Area.{wordSize, termWords, toBytes, areaLength};
+ghost use Rattle.model.specs.Call.{over, emit, callOpen, callCopy, callEntry, callReport, callWrite};
 ghost use Rattle.model.specs.BookBytes.{bookBytes};
 ghost use Rattle.layout.specs.Rows.{bookOf};
 ghost use Rattle.book.specs.Rows.{encodable};
@@ -17,13 +16,9 @@ ghost use Rattle.theory.specs.Modest.{Modest};
 ghost use Rattle.layout.specs.Limits.{limitsOf};
 ghost use Rattle.fit.specs.Opened.{openedWords};
 ghost use Rattle.fit.specs.Offered.{neededLength};
-ghost use Rattle.fit.specs.Held.{Held};
 
-// The words of the largest table.
-const TABLE_WORDS: usize = layout::ENTRY_WORDS * layout::OFFICE_CAPACITY;
-
-// The pairs that there is room for in the scratch of a call: one for each argument of a term.
-const PAIRS: usize = layout::MAX_ARITY * layout::OFFICE_TERMS;
+// The words before the entries of a report with the most lines: how many lines, each line's entry, how many entries.
+const HEAD_WORDS: usize = layout::OFFICE_LINES + 2;
 
 // The length in bytes that an area of this capacity needs, 0 for a capacity out of range.
 #[no_mangle]
@@ -128,38 +123,6 @@ fn write_book(rows: &[u32], terms: usize, out: &mut [u8], written: &mut u32) -> 
     0
 }
 
-// Whether an area is sound; then `rows` and `entries` have the rows of its terms and of its entries.
-fn office_sound(area: &[u8], rows: &mut [u32], entries: &mut [u32]) -> bool
-    requires { ⌜ (length (now rows) ≡ termWords * office .maxTerms) × (length (now entries) ≡ entryRowWords * office .maxCapacity) ⌝ }
-    ensures sound { λ r. ⌜ r ≡ sound office (now (area .entry)) ⌝ }
-    ensures rows { λ r. ⌜ (r ≡ true → Held (now (area .entry)) (now (rows .exit)) (now (entries .exit))) ⌝ }
-{
-    let mut bindings = [0u32; layout::OFFICE_TERMS];
-    let mut lines = [0u32; layout::OFFICE_LINES];
-    let mut list = [0u32; layout::OFFICE_TERMS];
-    let mut roots = [0u32; layout::OFFICE_TERMS];
-    let mut names = [0u32; layout::OFFICE_TERMS];
-    let mut lefts = [0u32; PAIRS];
-    let mut rights = [0u32; PAIRS];
-    let mut heads = [0u32; pairs::BUCKETS];
-    let mut next = [0u32; PAIRS];
-    state::sound(
-        rows,
-        &mut bindings,
-        &mut lines,
-        layout::OFFICE,
-        entries,
-        &mut list,
-        &mut roots,
-        &mut names,
-        area,
-        &mut lefts,
-        &mut rights,
-        &mut heads,
-        &mut next,
-    )
-}
-
 // Reads an entry: 7 for an area that is not sound, 8 where there is no such entry. `fields` are left, right, kind, symbol, count,
 // the eight argument places and same-as, zeros on a refusal.
 #[no_mangle]
@@ -169,8 +132,10 @@ pub extern "C" fn fit_entry(area: &[u8], i: u32, fields: &mut [u32; layout::ENTR
 {
     *fields = [0u32; layout::ENTRY_WORDS];
     let mut rows = [0u32; layout::TERM_WORDS * layout::OFFICE_TERMS];
-    let mut entries = [0u32; TABLE_WORDS];
-    if !office_sound(area, &mut rows, &mut entries) {
+    let mut lines = [0u32; layout::OFFICE_LINES];
+    let mut entries = [0u32; office::TABLE_WORDS];
+    let mut names = [0u32; layout::OFFICE_TERMS];
+    if !office::read(area, &mut rows, &mut lines, &mut entries, &mut names) {
         return 7;
     }
     let h = area::load_header(area);
@@ -190,11 +155,47 @@ pub extern "C" fn fit_write(area: &[u8], out: &mut [u8], written: &mut u32) -> u
     ensures written { λ r. ⌜ now (written .exit) ∷ [] ≡ callWrite office (now (area .entry)) (now (out .entry)) .numbers ⌝ }
     ensures output { λ r. ⌜ now (out .exit) ≡ callWrite office (now (area .entry)) (now (out .entry)) .output ⌝ }
 {
-    let mut entries = [0u32; TABLE_WORDS];
+    let mut names = [0u32; layout::OFFICE_TERMS];
+    let mut entries = [0u32; office::TABLE_WORDS];
+    let mut lines = [0u32; layout::OFFICE_LINES];
     let mut rows = [0u32; layout::TERM_WORDS * layout::OFFICE_TERMS];
-    if !office_sound(area, &mut rows, &mut entries) {
+    if !office::read(area, &mut rows, &mut lines, &mut entries, &mut names) {
         return refuse(7, written);
     }
     let h = area::load_header(area);
     write_book(&rows, h.terms as usize, out, written)
+}
+
+// Reports an area: 7 for an area that is not sound, then 13 where `out` is too short. `written` is the number of bytes written,
+// 0 on a refusal.
+#[no_mangle]
+pub extern "C" fn fit_report(area: &[u8], out: &mut [u8], written: &mut u32) -> u32
+    ensures refusal { λ r. ⌜ r ≡ callReport office (now (area .entry)) (now (out .entry)) .refusal ⌝ }
+    ensures written { λ r. ⌜ now (written .exit) ∷ [] ≡ callReport office (now (area .entry)) (now (out .entry)) .numbers ⌝ }
+    ensures output { λ r. ⌜ now (out .exit) ≡ callReport office (now (area .entry)) (now (out .entry)) .output ⌝ }
+{
+    let mut lines = [0u32; layout::OFFICE_LINES];
+    let mut names = [0u32; layout::OFFICE_TERMS];
+    let mut rows = [0u32; layout::TERM_WORDS * layout::OFFICE_TERMS];
+    let mut entries = [0u32; office::TABLE_WORDS];
+    if !office::read(area, &mut rows, &mut lines, &mut entries, &mut names) {
+        return refuse(7, written);
+    }
+    let h = area::load_header(area);
+    let end = layout::ENTRY_WORDS * (h.capacity as usize);
+    let k = h.lines as usize;
+    let mut met = [0u32; layout::OFFICE_CAPACITY];
+    let mut numbers = [0u32; layout::OFFICE_CAPACITY];
+    let mut head = [0u32; HEAD_WORDS];
+    report::report(
+        h.entries as usize,
+        &entries[..end],
+        &mut met,
+        &lines[..k],
+        &mut numbers,
+        &names,
+        &mut head,
+        out,
+        written,
+    )
 }

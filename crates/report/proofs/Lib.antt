@@ -4,3 +4,4 @@ pub mod Heads
 pub mod Bytes
 pub mod Lengths
 pub mod Writing
+pub mod Whole

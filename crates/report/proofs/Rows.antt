@@ -84,8 +84,8 @@ module _ {s : State} {entries numbers names met : List ℕ} (shown : Shown s ent
       subst (Readable entries numbers names) (sym is-class)
       (record {
         fits = row-fits (t .held) i present;
-        left-fits = omega (arith, left-term, shown .names-fit);
-        right-fits = omega (arith, right-term, shown .names-fit);
+        left-fits = omega (arith, left-term, shown .named .names-fit);
+        right-fits = omega (arith, right-term, shown .named .names-fit);
         small-symbol = symbol-small;
         marked = arguments-marked t n within;
       })
@@ -95,7 +95,7 @@ module _ {s : State} {entries numbers names met : List ℕ} (shown : Shown s ent
       → rowNumbers s n ≡ at names (at entries (entryRowWords * i)) ∷ at names (at entries (entryRowWords * i + 1)) ∷ kindNumbers (s .entries) (classes s) k
   unfolding rowNumbers entryNumbers loadedEntry
   by-kind k e =
-      rw (is-row, ← e, shown .is-name (loadedEntry entries i .left) left-term, shown .is-name (loadedEntry entries i .right) right-term)
+      rw (is-row, ← e, shown .named .is-name (loadedEntry entries i .left) left-term, shown .named .is-name (loadedEntry entries i .right) right-term)
 
   pub hole-numbers : at entries (entryRowWords * at met n + 2) ≡ 0
       → rowNumbers s n ≡ at names (at entries (entryRowWords * at met n)) ∷ at names (at entries (entryRowWords * at met n + 1)) ∷ 0 ∷ []

@@ -40,11 +40,21 @@ headNumbers s = length (s .lines) ∷ map (number (s .entries) (classes s)) (s .
 unfoldable pub rowNumbers : State → ℕ → List ℕ
 rowNumbers s n = entryNumbers (s .entries) (s .book) (s .bound) (classes s) (at (classes s) n)
 
--- Also the names of its terms, and the classes in order: all that the entries are written from.
-pub record Shown (s : State) (entries numbers names met : List ℕ) : Type 0 where
-  pub tabled : Tabled s entries numbers
+-- The names of its terms.
+pub record Named (s : State) (names : List ℕ) : Type 0 where
   pub names-fit : length (s .book) ≤ length names
   pub is-name : (t : ℕ) → t < length (s .book) → at names t ≡ name (s .book) (s .bound) t
+
+-- Its table, the lines and the names: all that a report is made from.
+pub record Told (s : State) (entries lines names : List ℕ) : Type 0 where
+  pub held : Held s entries
+  pub is-lines : lines ≡ s .lines
+  pub named : Named s names
+
+-- The table with the marks, the names, and the classes in order: all that the entries are written from.
+pub record Shown (s : State) (entries numbers names met : List ℕ) : Type 0 where
+  pub tabled : Tabled s entries numbers
+  pub named : Named s names
   pub is-order : met ≡ classes s
 
 -- What is read to give the numbers of entry i lies in the slices, and each argument's class has a mark.

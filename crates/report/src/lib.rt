@@ -1,13 +1,16 @@
-// The report of a sound state as bytes (docs/SPEC.md, "Bytes"): its length, and writing it. The classes are numbered already
-// (crate `numbering`); `head` has the numbers before the entries (specs/Shown.antt).
+// The report of a sound state as bytes (docs/SPEC.md, "Bytes"): its length, writing it, and `report`, which numbers the classes
+// (crate `numbering`) and does both. `head` has the numbers before the entries (specs/Shown.antt).
 
 ghost use mathlib.Core.Path.{_≡_};
-ghost use mathlib.Core.List.{_++_};
+ghost use mathlib.Core.List.{[], _++_};
 ghost use Prim.Native.Nat.{_+_, _≤_, _<_};
 ghost use lib.ListN.{length, getD, take, drop};
 ghost use Rattle.model.specs.Step.{State};
 ghost use Rattle.model.specs.Report.{numberBytes, reportBytes};
-ghost use Rattle.report.specs.Shown.{classes, Tabled, headNumbers, rowNumbers, Shown, Readable, Given};
+ghost use Rattle.model.specs.Call.{emit};
+ghost use Rattle.runs.specs.Emits.{Writes};
+ghost use Rattle.numbering.specs.Numbering.{Room};
+ghost use Rattle.report.specs.Shown.{classes, Tabled, headNumbers, rowNumbers, Told, Shown, Readable, Given};
 use layout::ENTRY_WORDS;
 
 // The most numbers of an entry: two names, the symbol, the count and the arguments.
@@ -135,4 +138,61 @@ pub fn write_report(
         n += 1;
     }
     at
+}
+
+// Writes a report whose classes are numbered: 13 where `out` is too short. `written` is the number of bytes written, 0 on a
+// refusal.
+fn emit_report(
+    written: &mut u32,
+    out: &mut [u8],
+    head: &[u32],
+    entries: &[u32],
+    numbers: &[u32],
+    names: &[u32],
+    met: &[u32],
+) -> u32
+    requires { ⌜ Given (λ s. Shown s (now entries) (now numbers) (now names) (now met) × (now head ≡ headNumbers s)) ⌝ }
+    ensures { λ r. ⌜ ((s : State) → Shown s (now (entries .entry)) (now (numbers .entry)) (now (names .entry)) (now (met .entry))
+        → now (head .entry) ≡ headNumbers s
+        → Writes (emit (reportBytes s) [] (now (out .entry))) r (now (written .exit)) (now (out .exit))) ⌝ }
+{
+    *written = 0;
+    if out.len() < report_length(head, entries, numbers, names, met) {
+        return 13;
+    }
+    let count = write_report(head, out, entries, numbers, names, met);
+    *written = count as u32;
+    0
+}
+
+// Writes the report of a state with `m` entries: 13 where `out` is too short. `written` is the number of bytes written, 0 on a
+// refusal. `met`, `numbers` and `head` are scratch.
+pub fn report(
+    m: usize,
+    entries: &[u32],
+    met: &mut [u32],
+    lines: &[u32],
+    numbers: &mut [u32],
+    names: &[u32],
+    head: &mut [u32],
+    out: &mut [u8],
+    written: &mut u32,
+) -> u32
+    requires state { ⌜ Given (λ s. Told s (now entries) (now lines) (now names) × (m ≡ length (s .entries))) ⌝ }
+    requires room { ⌜ Room m (now met) (now numbers) × (length (now lines) + 2 ≤ length (now head)) ⌝ }
+    ensures { λ r. ⌜ ((s : State) → Told s (now (entries .entry)) (now (lines .entry)) (now (names .entry)) → m ≡ length (s .entries)
+        → Writes (emit (reportBytes s) [] (now (out .entry))) r (now (written .exit)) (now (out .exit))) ⌝ }
+{
+    let count = numbering::number_classes(entries, m, lines, met, numbers);
+    number_lines(entries, numbers, lines, count, head);
+    let end = lines.len() + 2;
+    emit_report(
+        written,
+        out,
+        &head[..end],
+        entries,
+        numbers,
+        names,
+        &met[..count],
+    )
 }

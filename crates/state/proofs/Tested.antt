@@ -41,7 +41,7 @@ module _ (w : Loaded) (used : Used w) (rows-ok : T (rowsOk w)) where
       (entryRowsOk (w .entryRows) (w .entries) (w .terms)) .0 rows-ok .3
 
 -- a list whose first n words are known
-front : (n : ℕ) (xs ys : List ℕ) → take n xs ≡ ys → xs ≡ ys ++ drop n xs
+pub front : (n : ℕ) (xs ys : List ℕ) → take n xs ≡ ys → xs ≡ ys ++ drop n xs
 front n xs ys e = sym (take-append-drop n xs) ∙ ap (λ zs. zs ++ drop n xs) e
 
 -- with the values of the terms, what is asked to test the table

@@ -15,7 +15,7 @@ use Rattle.model.specs.Area.{wordSize, headerWords, termWords, entryRowWords, a
 use Rattle.theory.proofs.Area.Bytes.{sound-carries}
 use Rattle.theory.proofs.Soundness.Facts.{SoundFacts}
 use Rattle.theory.proofs.Soundness.Test.{sound-facts}
-use Rattle.layout.specs.Rows.{Loaded, loadedState}
+use Rattle.layout.specs.Rows.{Loaded, Sized, loadedState}
 use Rattle.layout.proofs.Rows.{length-bookOf, length-tableOf, getD-tableOf}
 use Rattle.rows.proofs.Parts.{run-behind}
 use Rattle.sound.proofs.Facts.{RowFacts}
@@ -46,6 +46,16 @@ module _ {lim : Limits} {w : Loaded} {list roots names : List ℕ} (r : Ready li
   pub ready-facts : SoundFacts lim (loadedState w)
   ready-facts = sound-facts lim (loadedState w) (r .sound)
 
+  -- its parts have their lengths
+  pub ready-sized : Sized lim w
+  ready-sized =
+      record {
+        terms-long = r .sizes .rows-size;
+        bindings-long = r .sizes .bindings-size;
+        lines-long = r .sizes .lines-size;
+        entries-long = r .sizes .entries-size;
+      }
+
   -- its words are those of its state
   pub ready-holds : Holds lim w (loadedState w)
   unfolding loadedState
@@ -62,12 +72,7 @@ module _ {lim : Limits} {w : Loaded} {list roots names : List ℕ} (r : Ready li
         term-counts = λ t l. rows .term-row t l .count;
         entry-counts = λ i l. rows .entry-row i l .count;
       })
-      (record {
-        terms-long = r .sizes .rows-size;
-        bindings-long = r .sizes .bindings-size;
-        lines-long = r .sizes .lines-size;
-        entries-long = r .sizes .entries-size;
-      })
+      ready-sized
       rows
 
 -- An area that was read.

@@ -38,7 +38,7 @@ are-bytes [] h = tt
 are-bytes (x ∷ xs) h = and-both (ltb x 256) (areBytes xs) (lt→ltb x 256 (h zero)) (are-bytes xs (λ i. h (suc i)))
 
 -- room for more terms, or for more entries, is room for fewer
-fewer-terms : {list roots names lefts rights heads next : List ℕ} {n m : ℕ} → m ≤ n → Room list roots names lefts rights heads next n
+pub fewer-terms : {list roots names lefts rights heads next : List ℕ} {n m : ℕ} → m ≤ n → Room list roots names lefts rights heads next n
     → Room list roots names lefts rights heads next m
 fewer-terms l r =
     record {
@@ -57,7 +57,7 @@ fewer-terms l r =
       };
     }
 
-fewer-entries : {lefts rights heads next : List ℕ} {n m : ℕ} → m ≤ n → Known.Room lefts rights heads next n → Known.Room lefts rights heads next m
+pub fewer-entries : {lefts rights heads next : List ℕ} {n m : ℕ} → m ≤ n → Known.Room lefts rights heads next n → Known.Room lefts rights heads next m
 fewer-entries l r =
     record {
       lefts-fit = omega (arith, r .lefts-fit);

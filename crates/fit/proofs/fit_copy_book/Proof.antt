@@ -3,7 +3,8 @@
 use mathlib.Core.Path.{sym, _∙_}
 use native.Mathlib.Omega.{arith}
 use borrow.Author.Needs.{needs}
-use Rattle.fit.proofs.Emitted.{refuses, held-encodable, held-few}
+use Rattle.runs.proofs.Emitted.{refuses}
+use Rattle.fit.proofs.BookHeld.{held-encodable, held-few}
 use Rattle.fit.proofs.Copied.{Decoded, copied-refused, decoded-held, copied}
 use Rattle.fit.proofs.fit_copy_book.Statement.{statement}
 use Rattle.fit.proofs.fit_copy_book.Tie as tie

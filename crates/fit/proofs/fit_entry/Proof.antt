@@ -10,24 +10,24 @@ use Rattle.model.specs.Limits.{office}
 use Rattle.model.specs.Area.{word, sound}
 use Rattle.theory.proofs.Lists.Laws.{true-T}
 use Rattle.state.proofs.Uses.{sound-header, read-entries, entry-within, entry-row}
-use Rattle.fit.specs.Held.{Held}
+use Rattle.office.specs.Held.{Held}
 use Rattle.fit.proofs.EntryCases.{entry-seven, entry-eight, entry-there}
 use Rattle.fit.proofs.fit_entry.Statement.{statement}
 use Rattle.fit.proofs.fit_entry.Tie as tie
 
 -- past the first test the area is sound, and its rows are loaded
-is-sound : (e : tie.Else1) → sound office (now (e .before .before .before .before .before .before .before .before .args .area)) ≡ true
-is-sound e = sym (e .before .before .before .office-sound .ensures .0) ∙ not-false _ (e .if1 .left)
+is-sound : (e : tie.Else1) → sound office (now (e .before .before .before .before .before .before .before .before .before .before .before .before .args .area)) ≡ true
+is-sound e = sym (e .before .before .before .before .before .read .ensures .0) ∙ not-false _ (e .if1 .left)
 
-is-held : (e : tie.Else1) → let r = e .before .before .before .office-sound .last in Held (now (e .before .before .before .before .before .before .before .before .args .area)) (r .1 .0) (r .1 .1 .0)
-is-held e = e .before .before .before .office-sound .ensures .1 (not-false _ (e .if1 .left))
+is-held : (e : tie.Else1) → let r = e .before .before .before .before .before .read .last in Held (now (e .before .before .before .before .before .before .before .before .before .before .before .before .args .area)) (r .1 .0) (r .1 .1 .0) (r .1 .1 .1 .0) (r .1 .1 .1 .1 .0)
+is-held e = e .before .before .before .before .before .read .ensures .1 (not-false _ (e .if1 .left))
 
 -- past the second there is such an entry
-is-there : (e : tie.Else2) → let s = e .before .before .before .before .before .before .before .before .before .before .before in s .args .i < word (now (s .args .area)) 2
+is-there : (e : tie.Else2) → let s = e .before .before .before .before .before .before .before .before .before .before .before .before .before .before .before in s .args .i < word (now (s .args .area)) 2
 is-there e = omega (arith, e .if2 .left, e .before .before .load-header .ensures .2)
 
 returns : tie.Need-returns
-returns c = entry-seven _ _ _ (sym (c .before .before .before .office-sound .ensures .0) ∙ not-true _ (c .if1 .taken))
+returns c = entry-seven _ _ _ (sym (c .before .before .before .before .before .read .ensures .0) ∙ not-true _ (c .if1 .taken))
 
 load-header-requires : tie.Need-load-header-requires
 load-header-requires c κs = sound-header office _ (true-T _ (is-sound c))
@@ -53,6 +53,8 @@ pub fit-entry-spec : {M : Type 1} → statement M
 fit-entry-spec =
     tie.close
     (tie.spec
+    (λ c. search needs)
+    (λ c. search needs)
     (λ c. search needs)
     (λ c. search needs)
     (λ c κs. search needs)

@@ -7,38 +7,41 @@ use borrow.Author.Tests.{not-true, not-false}
 use Rattle.model.specs.Limits.{office}
 use Rattle.theory.proofs.Lists.Laws.{true-T}
 use Rattle.state.proofs.Uses.{sound-header}
-use Rattle.fit.proofs.Emitted.{refuses, held-encodable, held-few}
-use Rattle.fit.proofs.Copied.{written-seven, read-held, written-book}
+use Rattle.runs.proofs.Emitted.{refuses}
+use Rattle.fit.proofs.BookHeld.{held-encodable, held-few}
+use Rattle.fit.proofs.Written.{book-seven, read-held, written-book}
 use Rattle.fit.proofs.fit_write.Statement.{statement}
 use Rattle.fit.proofs.fit_write.Tie as tie
 
 returns : tie.Need-returns
 returns c =
     let test = c .before .before in
-    refuses (c .refuse .ensures) (written-seven _ _ (sym (test .before .before .before .office-sound .ensures .0) ∙ not-true _ (test .if1 .taken)))
+    refuses (c .refuse .ensures) (book-seven _ _ (sym (test .before .before .before .before .before .read .ensures .0) ∙ not-true _ (test .if1 .taken)))
 
 load-header-requires : tie.Need-load-header-requires
 load-header-requires c κs =
-    sound-header office _ (true-T _ (sym (c .before .before .before .office-sound .ensures .0) ∙ not-false _ (c .if1 .left)))
+    sound-header office _ (true-T _ (sym (c .before .before .before .before .before .read .ensures .0) ∙ not-false _ (c .if1 .left)))
 
 write-book-requires : tie.Need-write-book-requires
 write-book-requires c κs =
     let h = c .before .before .before .before in
     let e = h .before in
-    let d = read-held (e .before .before .before .office-sound .ensures .1 (not-false _ (e .if1 .left)) .read) _ (h .load-header .ensures .1) in (held-encodable d, omega (arith, held-few d))
+    let d = read-held (e .before .before .before .before .before .read .ensures .1 (not-false _ (e .if1 .left))) _ (h .load-header .ensures .1) in (held-encodable d, omega (arith, held-few d))
 
 returns-2 : tie.Need-returns-2
 returns-2 c =
     let h = c .before .before .before .before .before .before .before in
     let e = h .before in
-    let test = e .before .before .before .office-sound .ensures in
+    let test = e .before .before .before .before .before .read .ensures in
     let yes = not-false _ (e .if1 .left) in
-    written-book (test .1 yes .read) _ (h .load-header .ensures .1) (sym (test .0) ∙ yes) _ (c .before .before .write-book .ensures)
+    written-book (test .1 yes) _ (h .load-header .ensures .1) (sym (test .0) ∙ yes) _ (c .before .before .write-book .ensures)
 
 pub fit-write-spec : {M : Type 1} → statement M
 fit-write-spec =
     tie.close
     (tie.spec
+    (λ c. search needs)
+    (λ c. search needs)
     (λ c. search needs)
     (λ c. search needs)
     (λ c κs. search needs)

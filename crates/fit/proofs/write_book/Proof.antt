@@ -1,6 +1,6 @@
 -- `fit::write_book` meets its contract: an output that is too short, or one that the encoder has written to. Assumes nothing.
 use borrow.Author.Needs.{needs}
-use Rattle.fit.proofs.Emitted.{refuses, emit-short, emit-whole}
+use Rattle.runs.proofs.Emitted.{refuses, emit-short, emit-whole}
 use Rattle.fit.proofs.write_book.Statement.{statement}
 use Rattle.fit.proofs.write_book.Tie as tie
 

@@ -24,7 +24,7 @@ accepted-equal : (ns ms : List ℕ) (s s′ : State) → accepted ns s ≡ accep
 accepted-equal ns ms s s′ h = (cc, cc)
 
 -- both of two tests hold
-and-true : (a b : Bool) → a && b ≡ true → (a ≡ true) × (b ≡ true)
+pub and-true : (a b : Bool) → a && b ≡ true → (a ≡ true) × (b ≡ true)
 and-true true b h = (refl, h)
 and-true false b h = absurd (false≢true h)
 
@@ -70,7 +70,7 @@ module _ (s : State) (l r : ℕ) where
       }
 
 -- a free variable is a variable that is not bound
-free-var : (n : Node) (o : Option ℕ) → isFree n o ≡ true → (n ≡ var) × (o ≡ none)
+pub free-var : (n : Node) (o : Option ℕ) → isFree n o ≡ true → (n ≡ var) × (o ≡ none)
 unfolding isFree
 free-var var none h = (refl, refl)
 free-var var (some u) h = absurd (false≢true h)

@@ -1,4 +1,4 @@
--- The rows of a sound area that was read. Assumes nothing: these are definitions.
+-- What is left of a sound area that was read, with the office's limits. Assumes nothing: these are definitions.
 use mathlib.Core.List.{List}
 use Prim.Native.Nat.{ℕ, _*_}
 use lib.ListN.{take}
@@ -8,11 +8,10 @@ use Rattle.area.specs.Held.{held}
 use Rattle.state.specs.Loading.{headerOf}
 use Rattle.state.specs.Ready.{Read}
 
--- The slices hold the rows of the terms and of the entries of the area's state, which is sound; whatever the others hold.
-pub record Held (area rows entries : List ℕ) : Type 0 where
+-- The slices hold the rows of the terms, the lines, the rows of the entries and the names of the area's state, which is sound,
+-- whatever its other parts are.
+pub record Held (area rows lines entries names : List ℕ) : Type 0 where
   pub bindings : List ℕ
-  pub lines : List ℕ
   pub list : List ℕ
   pub roots : List ℕ
-  pub names : List ℕ
   pub read : Read office area (held (headerOf area) rows bindings lines (take (entryRowWords * word area 0) entries)) list roots names

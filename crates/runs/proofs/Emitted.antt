@@ -1,26 +1,13 @@
--- Bytes into an output: too short, or written; and rows that hold a book can be written. Assumes nothing.
+-- Bytes into an output: too short, or written. Assumes nothing.
 use mathlib.Core.Path.{_≡_, refl}
 use mathlib.Core.List.{List, [], _∷_, _++_}
 use mathlib.Core.Bool.{Bool, true, false}
-use Prim.Native.Nat.{ℕ, _+_, _*_, _≤_, _<_}
-use native.Mathlib.Omega.{arith}
+use Prim.Native.Nat.{ℕ, _≤_, _<_}
 use lib.ListN.{length, drop}
-use lib.Dec.{T, leb}
+use lib.Dec.{leb}
 use borrow.Author.Tests.{le-leb, lt-leb}
-use Rattle.leb128.specs.Number.{maxGroups}
-use Rattle.model.specs.Limits.{office}
-use Rattle.model.specs.Term.{Book, Bindings}
-use Rattle.model.specs.Area.{termWords}
-use Rattle.model.specs.BookBytes.{bookBytes}
 use Rattle.model.specs.Call.{Outcome, refuse, accept, guard, over, emit}
-use Rattle.theory.proofs.Soundness.Facts.{Formed}
-use Rattle.layout.specs.Rows.{bookOf}
-use Rattle.book.specs.Rows.{bookRows, encodable}
-use Rattle.book.proofs.RowsBook.{rows-book, rows-encodable, book-bytes}
-
--- An outcome has this refusal, this number of bytes and this output.
-abbrev pub Writes : Outcome → ℕ → ℕ → List ℕ → Type 0
-Writes o refusal written out = (refusal ≡ o .refusal) × ((written ∷ [] ≡ o .numbers) × (out ≡ o .output))
+use Rattle.runs.specs.Emits.{Writes}
 
 -- another outcome that is equal
 pub writes : {o o′ : Outcome} {refusal written : ℕ} {out : List ℕ} → o′ ≡ o → Writes o refusal written out → Writes o′ refusal written out
@@ -53,27 +40,3 @@ module _ (new out : List ℕ) where
           → Writes (guard t (refuse 1 13 area out) (accept (length new ∷ []) area (over new out))) refusal written out′
       go true w = w
       go false w = w
-
--- The rows hold a book of so many terms that obeys the rules, with zeros behind it.
-pub record BookHeld (rows : List ℕ) (terms : ℕ) (b : Book) (β : Bindings) : Type 0 where
-  pub formed : Formed b β
-  pub few : length b ≤ office .maxTerms
-  pub as-many : terms ≡ length b
-  pub written : rows ≡ bookRows (termWords * office .maxTerms) b
-
-module _ {rows : List ℕ} {terms : ℕ} {b : Book} {β : Bindings} (d : BookHeld rows terms b β) where
-  room : termWords * length b ≤ termWords * office .maxTerms
-  room = omega (arith, d .few)
-
-  -- they can be encoded
-  pub held-encodable : T (encodable rows terms)
-  held-encodable =
-      rw (d .written, d .as-many) (rows-encodable (termWords * office .maxTerms) b (d .formed) room (omega (arith, d .few)))
-
-  -- they hold the book
-  pub held-book : bookOf rows terms ≡ b
-  held-book = rw (d .written, d .as-many) (rows-book (termWords * office .maxTerms) b (d .formed) room)
-
-  -- its bytes are few
-  pub held-few : length (bookBytes (bookOf rows terms)) ≤ maxGroups * (1 + termWords * office .maxTerms)
-  held-few = rw held-book (omega (arith, book-bytes (termWords * office .maxTerms) b (d .formed) room, room))

@@ -1,0 +1,5 @@
+pub mod Tests
+pub mod Words
+pub mod Walked
+pub mod Rebuilt
+pub mod Chosen

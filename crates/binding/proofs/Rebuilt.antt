@@ -1,0 +1,54 @@
+-- A table under bindings that have changed: with the terms named anew it can be indexed, and then walked through. Assumes nothing.
+use mathlib.Core.Path.{_≡_, sym, _∙_}
+use mathlib.Core.List.{List}
+use mathlib.Core.Bool.{Bool, true, not}
+use Prim.Native.Nat.{ℕ, _≤_}
+use native.Mathlib.Omega.{arith}
+use borrow.Author.Tests.{not-true}
+use lib.ListN.{length}
+use Rattle.model.specs.Term.{acyclic}
+use Rattle.layout.specs.Rows.{bookOf, boundOf, tableOf}
+use Rattle.layout.proofs.Rows.{length-bookOf, length-tableOf}
+use Rattle.area.specs.declared.Header.{Header}
+use Rattle.entries.specs.Known.{Room}
+use Rattle.entries.proofs.Places.{room-kept}
+use Rattle.state.specs.Ready.{Valued}
+use Rattle.table.specs.Stands.{Whatever}
+use Rattle.table.proofs.Sizes.{SameSizes}
+use Rattle.saturate.specs.Steps.{ToWalk, ToIndex, IsIndexed}
+use Rattle.steps.proofs.Tables.{valued-names, valued-known, room-fewer, indexed-stands}
+use Rattle.binding.specs.Choice.{ToRebuild}
+
+module _ {h : Header} {rows bindings list roots names entries lefts rights heads next : List ℕ}
+    (r : ToRebuild h rows bindings list roots names entries lefts rights heads next) where
+  -- no value contains itself, so no test says that one does
+  pub never-refused : {x : Bool} → x ≡ acyclic (bookOf rows (h .terms)) (boundOf bindings (h .terms)) → not x ≡ true → ⊥
+  never-refused e n = rw (sym e ∙ not-true _ n) at (r .no-cycle)
+
+  -- the table fits its capacity
+  few : h .entries ≤ h .capacity
+  few = omega (arith, r .table .fits, r .long, length-tableOf entries (h .entries))
+
+  -- The terms are named, in scratch that is as long as it was.
+  module _ {list′ roots′ names′ lefts′ rights′ heads′ next′ : List ℕ} (v : Valued rows bindings list′ roots′ names′ (h .terms))
+      (left : length lefts′ ≡ length lefts) (right : length rights′ ≡ length rights) (head : length heads′ ≡ length heads) (link : length next′ ≡ length next) where
+    room : Room lefts′ rights′ heads′ next′ (h .capacity)
+    room = room-kept (r .for-entries) left right head link
+
+    pub to-index : ToIndex names′ entries lefts′ rights′ heads′ next′ (h .entries) (bookOf rows (h .terms)) (boundOf bindings (h .terms)) (tableOf entries (h .entries))
+    to-index =
+        record {
+          known = valued-names v;
+          count = sym (length-tableOf entries (h .entries));
+          held = r .table;
+          left-term = rw (length-tableOf, length-bookOf) (r .left-term);
+          right-term = rw (length-tableOf, length-bookOf) (r .right-term);
+          room = room-fewer few room;
+        }
+
+    pub to-walk : {lefts″ rights″ heads″ next″ : List ℕ} → SameSizes entries lefts′ rights′ heads′ next′ entries lefts″ rights″ heads″ next″
+        → Whatever (ToIndex names′ entries lefts′ rights′ heads′ next′ (h .entries)) (IsIndexed lefts″ rights″ heads″ next″ (h .entries))
+        → ToWalk rows roots′ names′ entries lefts″ rights″ heads″ next″ (h .capacity) (h .entries)
+        (bookOf rows (h .terms)) (boundOf bindings (h .terms)) (tableOf entries (h .entries))
+    to-walk sizes indexed =
+        record { known = valued-known v; stands = indexed-stands to-index (indexed _ _ _ to-index) (r .long) room sizes }

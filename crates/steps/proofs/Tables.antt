@@ -1,0 +1,97 @@
+-- From a loaded, sound state to what the functions of the pair table ask. Assumes nothing.
+use mathlib.Core.Path.{_≡_}
+use mathlib.Core.List.{List, []}
+use Prim.Native.Nat.{ℕ, _*_, _≤_}
+use native.Mathlib.Omega.{arith}
+use lib.ListN.{length}
+use lib.Dec.{T}
+use Rattle.model.specs.Limits.{Limits}
+use Rattle.model.specs.Lists.{all, from}
+use Rattle.model.specs.Term.{Book, Bindings}
+use Rattle.model.specs.Table.{Table}
+use Rattle.model.specs.Step.{State}
+use Rattle.model.specs.Area.{entryRowWords}
+use Rattle.theory.proofs.Area.Layout.{wide-entries, length-entries}
+use Rattle.theory.proofs.Soundness.Facts.{SoundFacts}
+use Rattle.layout.specs.Rows.{Loaded, bookOf, boundOf, loadedState}
+use Rattle.rows.specs.RowTests.{entryRowsOk, zeroFrom}
+use Rattle.sound.proofs.Parts.{Holds}
+use Rattle.entries.specs.Known.{Room}
+use Rattle.entries.proofs.Loaded.{named-loaded, known-loaded}
+use Rattle.entries.proofs.Places.{room-kept}
+use Rattle.state.specs.Ready.{Valued, Ready}
+use Rattle.state.proofs.Tested.{front}
+use Rattle.table.specs.Stands.{HoldsTable, KnownNames, KnownTerms, Stands}
+use Rattle.table.proofs.Sizes.{SameSizes}
+use Rattle.saturate.specs.Steps.{ToIndex, IsIndexed}
+
+-- no row of an entry is in order
+no-rows : (n : ℕ) → T (entryRowsOk [] 0 n)
+unfolding entryRowsOk zeroFrom all from
+no-rows n = tt
+
+-- terms whose values are computed are known
+module _ {rows words list roots names : List ℕ} {n : ℕ} (v : Valued rows words list roots names n) where
+  pub valued-names : KnownNames names (bookOf rows n) (boundOf words n)
+  valued-names = named-loaded rows words n _ (front n names _ (v .is-names)) (omega arith) (no-rows n)
+
+  pub valued-known : KnownTerms rows roots names (bookOf rows n) (boundOf words n)
+  valued-known = known-loaded rows words n _ (v .listed .good) (v .listed .no-cycle) valued-names (front n roots _ (v .is-roots))
+
+-- so are those of a loaded state
+pub ready-known : {lim : Limits} {w : Loaded} {list roots names : List ℕ} → Ready lim w list roots names
+    → KnownTerms (w .termRows) roots names (loadedState w .book) (loadedState w .bound)
+unfolding loadedState
+ready-known r = valued-known (r .valued)
+
+-- room for a capacity is room for fewer entries
+pub room-fewer : {lefts rights heads next : List ℕ} {capacity m : ℕ} → m ≤ capacity → Room lefts rights heads next capacity → Room lefts rights heads next m
+room-fewer l r =
+    record {
+      all-heads = r .all-heads;
+      words = r .words;
+      lefts-fit = omega (arith, r .lefts-fit);
+      rights-fit = omega (arith, r .rights-fit);
+      next-fit = omega (arith, r .next-fit);
+    }
+
+-- The words of a sound state.
+module _ {lim : Limits} {w : Loaded} {s : State} (f : SoundFacts lim s) (h : Holds lim w s) where
+  -- its rows hold its table
+  pub held-table : HoldsTable (w .entryRows) (s .entries)
+  held-table =
+      let long : length (w .entryRows) ≡ entryRowWords * s .capacity = rw (h .entry-words) (length-entries lim s f) in
+      record {
+        words = rw long (h .entry-words);
+        fits = omega (arith, f .few-entries);
+        wide = wide-entries lim s f;
+      }
+
+  -- with the names of its terms, under these bindings or others, its table can be indexed
+  pub to-index : {names lefts rights heads next : List ℕ} {β : Bindings} → KnownNames names (s .book) β → Room lefts rights heads next (w .capacity)
+      → ToIndex names (w .entryRows) lefts rights heads next (w .entries) (s .book) β (s .entries)
+  to-index k room =
+      record {
+        known = k;
+        count = h .entries-count;
+        held = held-table;
+        left-term = f .table .left-term;
+        right-term = f .table .right-term;
+        room = room-fewer (omega (arith, f .few-entries, h .entries-count, h .the-capacity)) room;
+      }
+
+-- an indexed table stands in its slices
+pub indexed-stands : {names entries lefts rights heads next lefts′ rights′ heads′ next′ : List ℕ} {capacity m : ℕ} {b : Book} {β : Bindings} {es : Table}
+    → ToIndex names entries lefts rights heads next m b β es → IsIndexed lefts′ rights′ heads′ next′ m b β es
+    → length entries ≡ entryRowWords * capacity → Room lefts rights heads next capacity
+    → SameSizes entries lefts rights heads next entries lefts′ rights′ heads′ next′
+    → Stands entries lefts′ rights′ heads′ next′ capacity m b β es
+indexed-stands q done long room sizes =
+    record {
+      count = q .count;
+      held = q .held;
+      long = long;
+      room = room-kept room (sizes .left-size) (sizes .right-size) (sizes .heads-size) (sizes .next-size);
+      indexed = done .indexed;
+      names = done .names;
+    }

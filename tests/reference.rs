@@ -1,5 +1,5 @@
-//! A second implementation of the six calls, written from docs/SPEC.md and docs/LAYOUT.md alone. It shares no code with the
-//! proved crates. It takes any limits; the library has those called `OFFICE`.
+//! A second implementation of the six calls and of the session, written from docs/SPEC.md and docs/LAYOUT.md alone. It shares no
+//! code with the proved crates. It takes any limits; the library has those called `OFFICE`.
 
 // Each program uses a part.
 #![allow(dead_code, unused_imports)]
@@ -9,12 +9,14 @@ mod book;
 mod calls;
 mod random;
 mod report;
+mod session;
 mod soundness;
 mod table;
 mod value;
 
 pub use area::{Limits, OFFICE};
-pub use book::{decode, encode, Term};
+pub use book::{decode, encode, push_number, Term};
 pub use calls::{perform, Answer, Call};
 pub use random::{book_over, random_book, Random};
+pub use session::{session, CAPACITY, LONGEST};
 pub use soundness::{faults, Fault, Faults};

@@ -12,13 +12,13 @@ pub const MAX_SYMBOL: u32 = 4095;
 pub const MAX_ARITY: u32 = 8;
 
 /// Bytes that are taken from the front.
-struct Source<'a> {
-    rest: &'a [u8],
+pub struct Source<'a> {
+    pub rest: &'a [u8],
 }
 
 impl Source<'_> {
     /// One number in shortest form, or the refusal.
-    fn number(&mut self) -> Result<u32, u32> {
+    pub fn number(&mut self) -> Result<u32, u32> {
         let mut value = 0;
         for group in 0..3 {
             let (&byte, tail) = self.rest.split_first().ok_or(1u32)?;

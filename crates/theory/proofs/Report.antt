@@ -4,5 +4,6 @@ pub mod Pair
 pub mod Values
 pub mod Numbering
 pub mod Small
+pub mod Lengths
 pub mod Decoding
 pub mod Tells

@@ -10,7 +10,7 @@ use lib.Seq.{take-append-seam}
 use lib.Dec.{T, eqb, ltb, leb, eqb→eq}
 use native.Mathlib.Omega.{arith}
 use borrow.Author.Tests.{eqb-false}
-use Rattle.model.specs.Limits.{Limits, office}
+use Rattle.model.specs.Limits.{Limits}
 use Rattle.model.specs.Term.{Book}
 use Rattle.model.specs.Step.{State, Answer, refused, accepted, bind, opened}
 use Rattle.model.specs.Report.{report, reportBytes, numberBytes}
@@ -51,14 +51,11 @@ pub use Rattle.theory.proofs.Steps.Line.{line}
 pub use Rattle.theory.proofs.Steps.Kept.{choice}
 pub use Rattle.theory.proofs.Patterns.Readings.{readings-as-written}
 pub use Rattle.theory.proofs.Report.Numbering.{numbering-as-written}
+pub use Rattle.theory.proofs.Report.Lengths.{office-modest, lengths}
 pub use Rattle.theory.proofs.Report.Tells.{report-tells}
 pub use Rattle.theory.proofs.Runs.LineOnAreas.{line-on-areas}
 pub use Rattle.theory.proofs.Refusals.Deciding.{one-number}
 pub use Rattle.theory.proofs.Refusals.Calls.{demand-1}
-
--- The office's limits are within themselves, so every theorem over `Modest` limits holds of them.
-pub office-modest : Modest office
-office-modest = record { terms = omega arith; capacity = omega arith; lines = omega arith }
 
 -- VALUES.
 pub fuel-is-enough : FuelIsEnough

@@ -9,6 +9,7 @@ pub mod Choice
 pub mod Reading
 pub mod Numbering
 pub mod Soundness
+pub mod Lengths
 pub mod ReportOfValues
 pub mod Demand1
 pub mod Demand2

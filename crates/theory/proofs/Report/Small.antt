@@ -30,15 +30,19 @@ Small = Below (suc maxNumber)
 abbrev pub SmallRow : ℕ → List ℕ → Type 0
 SmallRow w ns = Small ns × (length ns ≤ w)
 
+-- the new numbers of entries are below any number above that of those numbered
+pub numbers-below : (es : Table) (met : List ℕ) (w : ℕ) → length met < w → (is : List ℕ) → Below w (map (number es met) is)
+unfolding number
+numbers-below es met w few is =
+    below-all (map (number es met) is) (omega arith)
+    (λ j l.
+    let here : j < length is = omega (arith, length-map is (number es met)) in
+    rw (getD-map-lt (number es met) is j 0 0 here) (omega (arith, first-le (eqb (class es (getD is j 0))) met)))
+
 module _ (es : Table) (met : List ℕ) (few : length met ≤ maxNumber) where
-  -- the new numbers of entries
+  -- so they are small
   pub small-numbers : (is : List ℕ) → Small (map (number es met) is)
-  unfolding number
-  small-numbers is =
-      below-all (map (number es met) is) (omega arith)
-      (λ j l.
-      let here : j < length is = omega (arith, length-map is (number es met)) in
-      rw (getD-map-lt (number es met) is j 0 0 here) (omega (arith, first-le (eqb (class es (getD is j 0))) met)))
+  small-numbers = numbers-below es met (suc maxNumber) (omega arith)
 
   -- a kind that is right
   small-kind : (b : Book) (β : Bindings) (k : Kind) (l r : Node) → KindRight b β es k l r → symbol l ≤ maxSymbol

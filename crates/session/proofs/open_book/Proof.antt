@@ -1,0 +1,60 @@
+-- `session::open_book` meets its contract: each return is a case of opening (proofs/Opening.antt). Assumes nothing.
+use borrow.Author.Needs.{needs}
+use Rattle.session.proofs.Opening.{runs-past, book-refused, book-opened}
+use Rattle.session.proofs.open_book.Statement.{statement}
+use Rattle.session.proofs.open_book.Tie as tie
+
+sub-if1 : tie.Need-sub-if1
+sub-if1 c = search needs
+
+returns : tie.Need-returns
+returns c = runs-past _ _ _ _ (c .if1 .taken)
+
+add-end : tie.Need-add-end
+add-end c = search needs
+
+sub-fit-open : tie.Need-sub-fit-open
+sub-fit-open c = search needs
+
+part-fit-open-start : tie.Need-part-fit-open-start
+part-fit-open-start c = search needs
+
+part-fit-open-end : tie.Need-part-fit-open-end
+part-fit-open-end c = search needs
+
+fit-open-requires : tie.Need-fit-open-requires
+fit-open-requires c κs = search needs
+
+same-length : tie.Need-same-length
+same-length c = search needs
+
+returns-2 : tie.Need-returns-2
+returns-2 c =
+    let opened = c .before .before .before in
+    let fits = opened .before .before .before in
+    book-refused _ _ _ _ (fits .if1 .left) _ _ (opened .fit-open .ensures) (c .if2 .taken)
+
+same-length-2 : tie.Need-same-length-2
+same-length-2 c = search needs
+
+returns-3 : tie.Need-returns-3
+returns-3 c =
+    let opened = c .before .before .before in
+    let fits = opened .before .before .before in
+    book-opened _ _ _ _ (fits .if1 .left) _ _ (opened .fit-open .ensures) (c .if2 .left)
+
+pub open-book-spec : {M : Type 1} → statement M
+open-book-spec =
+    tie.close
+    (tie.spec
+    sub-if1
+    returns
+    add-end
+    sub-fit-open
+    part-fit-open-start
+    part-fit-open-end
+    fit-open-requires
+    same-length
+    returns-2
+    same-length-2
+    returns-3)

@@ -1,0 +1,62 @@
+-- `session::print::bound_line` meets its contract: 0, the two counts, and the end of the line (proofs/Printing.antt). Assumes nothing.
+use native.Mathlib.Omega.{arith}
+use borrow.Author.Needs.{needs}
+use Rattle.session.proofs.Printing.{line-first, line-more, line-length, line-at, line-ended}
+use Rattle.session.proofs.print.bound_line.Statement.{statement}
+use Rattle.session.proofs.print.bound_line.Tie as tie
+
+put-decimal-requires : tie.Need-put-decimal-requires
+put-decimal-requires c κs = search needs
+
+put-spaced-requires : tie.Need-put-spaced-requires
+put-spaced-requires c κs =
+    let put = c .before .before .before in
+    let s = put .before .before .before in
+    let line = line-first (s .args .text .now) 0 (omega arith) (omega arith) (put .put-decimal .ensures) in
+    omega (arith, line-length _ line, line-at _ line)
+
+put-spaced-requires-2 : tie.Need-put-spaced-requires-2
+put-spaced-requires-2 c κs =
+    let more = c .before .before .before in
+    let put = more .before .before .before .before in
+    let s = put .before .before .before in
+    let line = line-first (s .args .text .now) 0 (omega arith) (omega arith) (put .put-decimal .ensures) in
+    let line2 = line-more _ line (s .args .turned) (omega arith) (omega arith) (more .put-spaced .ensures) in
+    omega (arith, line-length _ line2, line-at _ line2)
+
+end-line-requires : tie.Need-end-line-requires
+end-line-requires c κs =
+    let last = c .before .before .before in
+    let more = last .before .before .before .before in
+    let put = more .before .before .before .before in
+    let s = put .before .before .before in
+    let line = line-first (s .args .text .now) 0 (omega arith) (omega arith) (put .put-decimal .ensures) in
+    let line2 = line-more _ line (s .args .turned) (omega arith) (omega arith) (more .put-spaced .ensures) in
+    let line3 = line-more _ line2 (s .args .appended) (omega arith) (omega arith) (last .put-spaced2 .ensures) in
+    omega (arith, line-length _ line3, line-at _ line3)
+
+same-length : tie.Need-same-length
+same-length c = search needs
+
+returns : tie.Need-returns
+returns c =
+    let end = c .before .before in
+    let last = end .before .before .before .before in
+    let more = last .before .before .before .before in
+    let put = more .before .before .before .before in
+    let s = put .before .before .before in
+    let line = line-first (s .args .text .now) 0 (omega arith) (omega arith) (put .put-decimal .ensures) in
+    let line2 = line-more _ line (s .args .turned) (omega arith) (omega arith) (more .put-spaced .ensures) in
+    let line3 = line-more _ line2 (s .args .appended) (omega arith) (omega arith) (last .put-spaced2 .ensures) in
+    line-ended _ line3 (end .end-line .ensures)
+
+pub bound-line-spec : {M : Type 1} → statement M
+bound-line-spec =
+    tie.close
+    (tie.spec
+    put-decimal-requires
+    put-spaced-requires
+    put-spaced-requires-2
+    end-line-requires
+    same-length
+    returns)

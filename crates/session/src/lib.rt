@@ -1,0 +1,225 @@
+// A session over lent bytes: opening it, and one step of it (specs/Steps.antt; docs/SPEC.md, "Sessions").
+
+pub mod print;
+
+ghost use mathlib.Core.Path.{_≡_};
+ghost use Prim.Native.Nat.{_≤_};
+ghost use lib.ListN.{length};
+ghost use Rattle.leb128.specs.declared.Decoded.the-variants.{Number};
+ghost use Rattle.model.specs.Limits.{office};
+ghost use Rattle.model.specs.Call.{callAdd, callBind, callReport};
+ghost use Rattle.session.specs.Steps.{openBook, start, addedBy, boundBy, reportedBy, byNumber, stepAt, nextOr};
+ghost use Rattle.session.specs.Parts.{pairAt};
+
+// The longest session in bytes, and the capacity of its area.
+pub const LONGEST: usize = 65536;
+
+pub const CAPACITY: u32 = 1024;
+
+// What opening a session answers: the refusal that ends it, or the position of the first step.
+pub enum Begun {
+    Refused(u32),
+    At(usize),
+}
+
+// What a step answers. The session goes on at `next`; it is over where there is none.
+pub enum Stepped {
+    // the input has ended
+    Ended,
+    // a bad or cut number, or an unknown step
+    Stopped(u32),
+    // a refused call
+    Refused {
+        refusal: u32,
+        next: usize,
+    },
+    // a line and its entry
+    Added {
+        entry: u32,
+        next: usize,
+    },
+    // a choice, the old entries turned and the entries appended
+    Bound {
+        turned: u32,
+        appended: u32,
+        next: usize,
+    },
+    // a report, in the first bytes of the output
+    Reported {
+        length: u32,
+        next: usize,
+    },
+}
+
+// Two numbers and the position after them, or the refusal of the first that is none.
+pub enum Pair {
+    Numbers {
+        first: u32,
+        second: u32,
+        next: usize,
+    },
+    Refused(u32),
+}
+
+// Opens a session: 4 for one that is too long, the refusal of the book's length, and then the book's.
+pub fn open(input: &[u8], area: &mut [u8]) -> Begun
+    ensures answer { λ r. ⌜ r ≡ start (now (input .entry)) (now (area .entry)) .answer ⌝ }
+    ensures area { λ r. ⌜ now (area .exit) ≡ start (now (input .entry)) (now (area .entry)) .area ⌝ }
+{
+    if LONGEST < input.len() {
+        return Begun::Refused(4);
+    }
+    match leb128::read(input, 0) {
+        leb128::Decoded::Number { value, next } => open_book(input, next, value as usize, area),
+        leb128::Decoded::Cut => Begun::Refused(1),
+        leb128::Decoded::Invalid => Begun::Refused(2),
+    }
+}
+
+// Opens the book of `size` bytes at position `at`: 1 where it runs past the end.
+fn open_book(input: &[u8], at: usize, size: usize, area: &mut [u8]) -> Begun
+    requires { ⌜ at ≤ length (now input) ⌝ }
+    ensures answer { λ r. ⌜ r ≡ openBook (now (input .entry)) (now (area .entry)) (Number size at) .answer ⌝ }
+    ensures area { λ r. ⌜ now (area .exit) ≡ openBook (now (input .entry)) (now (area .entry)) (Number size at) .area ⌝ }
+{
+    if input.len() - at < size {
+        return Begun::Refused(1);
+    }
+    let end = at + size;
+    let refusal = fit::fit_open(CAPACITY, &input[at..end], area);
+    if refusal != 0 {
+        return Begun::Refused(refusal);
+    }
+    Begun::At(end)
+}
+
+// The two numbers at position `at`.
+fn two_numbers(input: &[u8], at: usize) -> Pair
+    ensures { λ r. ⌜ r ≡ pairAt (now (input .entry)) at ⌝ }
+{
+    match leb128::read(input, at) {
+        leb128::Decoded::Number { value, next } => match leb128::read(input, next) {
+            leb128::Decoded::Number {
+                value: second,
+                next: end,
+            } => Pair::Numbers {
+                first: value,
+                second,
+                next: end,
+            },
+            leb128::Decoded::Cut => Pair::Refused(1),
+            leb128::Decoded::Invalid => Pair::Refused(2),
+        },
+        leb128::Decoded::Cut => Pair::Refused(1),
+        leb128::Decoded::Invalid => Pair::Refused(2),
+    }
+}
+
+// Adds the line (`l`, `r`).
+fn add(area: &mut [u8], l: u32, r: u32, next: usize) -> Stepped
+    ensures answer { λ s. ⌜ s ≡ addedBy (callAdd office (now (area .entry)) l r) next ⌝ }
+    ensures area { λ s. ⌜ now (area .exit) ≡ callAdd office (now (area .entry)) l r .area ⌝ }
+{
+    let mut entry: u32 = 0;
+    let refusal = fit::fit_add(area, l, r, &mut entry);
+    if refusal != 0 {
+        return Stepped::Refused { refusal, next };
+    }
+    Stepped::Added { entry, next }
+}
+
+// Fixes the choice (`v`, `t`).
+fn bind(area: &mut [u8], v: u32, t: u32, next: usize) -> Stepped
+    ensures answer { λ s. ⌜ s ≡ boundBy (callBind office (now (area .entry)) v t) next ⌝ }
+    ensures area { λ s. ⌜ now (area .exit) ≡ callBind office (now (area .entry)) v t .area ⌝ }
+{
+    let mut turned: u32 = 0;
+    let mut appended: u32 = 0;
+    let refusal = fit::fit_bind(area, v, t, &mut turned, &mut appended);
+    if refusal != 0 {
+        return Stepped::Refused { refusal, next };
+    }
+    Stepped::Bound {
+        turned,
+        appended,
+        next,
+    }
+}
+
+// Reports into the output.
+fn report(area: &[u8], out: &mut [u8], next: usize) -> Stepped
+    ensures answer { λ s. ⌜ s ≡ reportedBy (callReport office (now (area .entry)) (now (out .entry))) next ⌝ }
+    ensures output { λ s. ⌜ now (out .exit) ≡ callReport office (now (area .entry)) (now (out .entry)) .output ⌝ }
+{
+    let mut length: u32 = 0;
+    let refusal = fit::fit_report(area, out, &mut length);
+    if refusal != 0 {
+        return Stepped::Refused { refusal, next };
+    }
+    Stepped::Reported { length, next }
+}
+
+// The step numbered `n`, whose other numbers begin at position `at`.
+fn by_number(input: &[u8], n: u32, at: usize, area: &mut [u8], out: &mut [u8]) -> Stepped
+    ensures answer { λ s. ⌜ s ≡ byNumber (now (input .entry)) (now (area .entry)) (now (out .entry)) n at .answer ⌝ }
+    ensures area { λ s. ⌜ now (area .exit) ≡ byNumber (now (input .entry)) (now (area .entry)) (now (out .entry)) n at .area ⌝ }
+    ensures output { λ s. ⌜ now (out .exit) ≡ byNumber (now (input .entry)) (now (area .entry)) (now (out .entry)) n at .output ⌝ }
+{
+    if n == 3 {
+        return report(area, out, at);
+    }
+    if n == 0 {
+        return Stepped::Stopped(8);
+    }
+    if 3 < n {
+        return Stepped::Stopped(8);
+    }
+    match two_numbers(input, at) {
+        Pair::Numbers {
+            first,
+            second,
+            next,
+        } => {
+            if n == 1 {
+                add(area, first, second, next)
+            } else {
+                bind(area, first, second, next)
+            }
+        }
+        Pair::Refused(k) => Stepped::Stopped(k),
+    }
+}
+
+// One step of a session, at position `at` of the input: its answer, and what it leaves in the area and in the output.
+pub fn step(input: &[u8], at: usize, area: &mut [u8], out: &mut [u8]) -> Stepped
+    ensures answer { λ s. ⌜ s ≡ stepAt (now (input .entry)) (now (area .entry)) (now (out .entry)) at .answer ⌝ }
+    ensures area { λ s. ⌜ now (area .exit) ≡ stepAt (now (input .entry)) (now (area .entry)) (now (out .entry)) at .area ⌝ }
+    ensures output { λ s. ⌜ now (out .exit) ≡ stepAt (now (input .entry)) (now (area .entry)) (now (out .entry)) at .output ⌝ }
+{
+    if input.len() <= at {
+        return Stepped::Ended;
+    }
+    match leb128::read(input, at) {
+        leb128::Decoded::Number { value, next } => by_number(input, value, next, area, out),
+        leb128::Decoded::Cut => Stepped::Stopped(1),
+        leb128::Decoded::Invalid => Stepped::Stopped(2),
+    }
+}
+
+// The position at which the session goes on after an answer, and `over` where it is over.
+pub fn goes_on(answer: Stepped, over: usize) -> usize
+    ensures { λ r. ⌜ r ≡ nextOr over answer ⌝ }
+{
+    match answer {
+        Stepped::Ended => over,
+        Stepped::Stopped(n) => over,
+        Stepped::Refused { refusal, next } => next,
+        Stepped::Added { entry, next } => next,
+        Stepped::Bound {
+            turned,
+            appended,
+            next,
+        } => next,
+        Stepped::Reported { length, next } => next,
+    }
+}

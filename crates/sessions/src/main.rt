@@ -1,0 +1,70 @@
+// The session program (docs/SPEC.md, "Sessions"): it reads a session from standard input, and prints a line for the opening and
+// for each step. The opening, a step and the text of its line are the functions of crate session; here they are joined to the
+// input and the output.
+
+ghost use mathlib.Core.Path.{_≡_};
+ghost use Prim.Native.Nat.{_<_, _≤_};
+ghost use lib.ListN.{length};
+ghost use Rattle.theory.specs.Lengths.{longestSessionReport};
+ghost use Rattle.session.specs.Printing.{lineMost};
+use libc::STDIN_FILENO;
+use libc::STDOUT_FILENO;
+use session::Begun;
+
+// The bytes of an area of the session's capacity, of the longest report, and of the longest line of text.
+const AREA: usize = layout::WORD_BYTES
+    * (layout::HEADER_WORDS
+        + (layout::TERM_WORDS + 1) * layout::OFFICE_TERMS
+        + layout::OFFICE_LINES
+        + layout::ENTRY_WORDS * (session::CAPACITY as usize));
+
+const REPORT: usize = 24068;
+
+const LINE: usize = 34 + 6 * REPORT;
+
+// Takes the step at position `at`, prints its line, and gives the position at which the session goes on: the end of the input
+// where it is over, or where its line cannot be printed.
+fn turn(input: &[u8], at: usize, area: &mut [u8], out: &mut [u8], text: &mut [u8]) -> usize
+    requires { ⌜ (at < length (now input)) × (lineMost (length (now out)) ≤ length (now text)) ⌝ }
+    ensures { λ r. ⌜ (at < r) × (r ≤ length (now (input .entry))) ⌝ }
+{
+    let answer = session::step(input, at, area, out);
+    let n = session::print::line(answer, out, text);
+    if !io::write_all(STDOUT_FILENO, &text[..n]) {
+        return input.len();
+    }
+    session::goes_on(answer, input.len())
+}
+
+// All steps from position `first` on.
+fn steps(input: &[u8], first: usize, area: &mut [u8], out: &mut [u8], text: &mut [u8])
+    requires { ⌜ (length (now out) ≡ longestSessionReport) × (length (now text) ≡ lineMost longestSessionReport) ⌝ }
+{
+    let mut at = first;
+    while at < input.len() {
+        at = turn(input, at, area, out, text);
+    }
+}
+
+// The opening, and the steps where it is accepted.
+fn run(input: &[u8]) {
+    let mut area = [0u8; AREA];
+    let mut text = [0u8; LINE];
+    let begun = session::open(input, &mut area);
+    let n = session::print::opening(begun, &mut text);
+    if !io::write_all(STDOUT_FILENO, &text[..n]) {
+        return;
+    }
+    let mut out = [0u8; REPORT];
+    match begun {
+        Begun::Refused(refusal) => return,
+        Begun::At(first) => steps(input, first, &mut area, &mut out, &mut text),
+    }
+}
+
+fn main() {
+    // one byte more than the longest session shows that a session is too long
+    let mut input = [0u8; session::LONGEST + 1];
+    let n = io::read_full(STDIN_FILENO, &mut input);
+    run(&input[..n]);
+}

@@ -1,0 +1,60 @@
+-- How long a book and a report can be (docs/SPEC.md, "Bytes"; document 01, "Sessions": the output always has space for the
+-- report). Statements only.
+use mathlib.Core.Path.{_≡_}
+use mathlib.Core.List.{List}
+use Prim.Native.Nat.{ℕ, _+_, _*_, _≤_}
+use lib.ListN.{length}
+use lib.Dec.{T}
+use Rattle.leb128.specs.Laws.{areBytes}
+use Rattle.model.specs.Limits.{Limits, office, maxArity, sessionCapacity}
+use Rattle.model.specs.Term.{Book}
+use Rattle.model.specs.Step.{State}
+use Rattle.model.specs.Report.{reportBytes}
+use Rattle.model.specs.BookBytes.{parsed, parseBook, bookBytes}
+use Rattle.model.specs.Area.{soundState, sound, stateOf}
+use Rattle.model.specs.Call.{callReport}
+use Rattle.theory.specs.Modest.{Modest}
+
+-- Within the office's limits a number takes at most two bytes, and the count of a symbol's arguments one. So a term takes at most
+-- `termMost` bytes, and an entry of a report, which has two names more, `entryMost`.
+abbrev pub termMost : ℕ
+termMost = 2 + 1 + 2 * maxArity
+
+abbrev pub entryMost : ℕ
+entryMost = 2 + 2 + termMost
+
+-- the most bytes of a book of so many terms, and of a report of so many lines and entries
+abbrev pub bookMost : ℕ → ℕ
+bookMost terms = 2 + termMost * terms
+
+abbrev pub reportMost : ℕ → ℕ → ℕ
+reportMost lines entries = 2 + 2 * lines + 2 + entryMost * entries
+
+-- docs/SPEC.md's numbers: the longest book, the longest report, and the longest report in a session
+abbrev pub longestBook : ℕ
+longestBook = 19458
+
+abbrev pub longestReport : ℕ
+longestReport = 47620
+
+abbrev pub longestSessionReport : ℕ
+longestSessionReport = 24068
+
+pub record Lengths : Type 0 where
+  -- of any limits up to the office's: bytes that open as a book, the book of a sound state written, and its report
+  pub book-read : (lim : Limits) → Modest lim → (bytes : List ℕ) (b : Book) (rest : List ℕ) → T (areBytes bytes)
+      → parseBook lim bytes ≡ parsed b rest → length bytes ≤ bookMost (length b)
+  pub book-written : (lim : Limits) → Modest lim → (s : State) → T (soundState lim s)
+      → length (bookBytes (s .book)) ≤ bookMost (length (s .book))
+  pub report-written : (lim : Limits) → Modest lim → (s : State) → T (soundState lim s)
+      → length (reportBytes s) ≤ reportMost (length (s .lines)) (length (s .entries))
+  -- the office's
+  pub office-book-read : (bytes : List ℕ) (b : Book) (rest : List ℕ) → T (areBytes bytes) → parseBook office bytes ≡ parsed b rest
+      → length bytes ≤ longestBook
+  pub office-book : (s : State) → T (soundState office s) → length (bookBytes (s .book)) ≤ longestBook
+  pub office-report : (s : State) → T (soundState office s) → length (reportBytes s) ≤ longestReport
+  pub session-report : (s : State) → T (soundState office s) → s .capacity ≡ sessionCapacity → length (reportBytes s) ≤ longestSessionReport
+  -- so a report of a sound area into an output of that length is not refused
+  pub room-for-report : (area out : List ℕ) → T (sound office area) → longestReport ≤ length out → callReport office area out .refusal ≡ 0
+  pub room-in-session : (area out : List ℕ) → T (sound office area) → stateOf area office .capacity ≡ sessionCapacity
+      → longestSessionReport ≤ length out → callReport office area out .refusal ≡ 0

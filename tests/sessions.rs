@@ -1,0 +1,345 @@
+//! Runs the session program on random sessions, valid and damaged, and compares every line that it prints with the second
+//! implementation. Every session is made from its own seed, which is printed where the two differ. The run prints how often
+//! each refusal was printed and each way to end occurred, and fails where one did not. With a file name it writes the session that
+//! takes longest there, and runs nothing.
+
+mod bases;
+mod reference;
+
+use reference::{encode, push_number, random_book, session, Call, Random, Term, LONGEST};
+use std::io::{Read, Write};
+use std::process::{Command, Stdio};
+use std::thread;
+use std::time::Duration;
+
+const SESSIONS: u64 = 20_000;
+const FIRST_SEED: u64 = 0x5E55_0000_0000_0000;
+/// One session in so many is a long one.
+const LONG_EVERY: u64 = 250;
+const PROGRAM: &str = "target/bin/sessions";
+
+/// The program with its standard input and output in our hands.
+fn program() -> Command {
+    let mut command = Command::new(PROGRAM);
+    command.stdin(Stdio::piped()).stdout(Stdio::piped());
+    command
+}
+
+/// What the program prints for this input, which it gets in pieces of this size.
+fn printed(input: &[u8], piece: usize, pause: Duration) -> Result<String, String> {
+    let mut child = program().spawn().map_err(|error| format!("{PROGRAM}: {error}"))?;
+    let mut stdin = child.stdin.take().expect("a pipe");
+    let input = input.to_vec();
+    let writer = thread::spawn(move || {
+        for bytes in input.chunks(piece) {
+            // The program reads no more than it needs to know that a session is too long.
+            if stdin.write_all(bytes).is_err() {
+                return;
+            }
+            thread::sleep(pause);
+        }
+    });
+    let output = child.wait_with_output().map_err(|error| error.to_string())?;
+    writer.join().expect("the writer");
+    if !output.status.success() {
+        return Err(format!("the program ended with {}", output.status));
+    }
+    String::from_utf8(output.stdout).map_err(|error| error.to_string())
+}
+
+/// A session of a book's bytes and of steps.
+fn of(book: &[u8], steps: &[u8]) -> Vec<u8> {
+    let mut input = Vec::new();
+    push_number(&mut input, book.len() as u32);
+    input.extend_from_slice(book);
+    input.extend_from_slice(steps);
+    input
+}
+
+fn push_step(steps: &mut Vec<u8>, call: Call) {
+    let numbers = match call {
+        Call::Add { l, r } => [1, l, r],
+        Call::Bind { v, t } => [2, v, t],
+        _ => return steps.push(3),
+    };
+    for n in numbers {
+        push_number(steps, n);
+    }
+}
+
+/// A line or a choice of any numbers, most of which name terms.
+fn loose_step(random: &mut Random, count: usize) -> Call<'static> {
+    let mut number = || match random.below(8) {
+        0 => random.below(70_000).min(65_535) as u32,
+        _ => random.place(count + 2) as u32,
+    };
+    let (a, b) = (number(), number());
+    match random.below(2) {
+        0 => Call::Add { l: a, r: b },
+        _ => Call::Bind { v: a, t: b },
+    }
+}
+
+/// A valid session: a small book, some steps, and reports among them or after every one.
+fn small(random: &mut Random) -> Vec<u8> {
+    let count = random.pick(&[0, 1, 2, 4, 6, 9, 14, 25, 60]);
+    let terms = match random.below(3) {
+        0 => random_book(random, count),
+        _ => bases::narrow_book(random, count),
+    };
+    let every = random.below(4) == 0;
+    let mut steps = Vec::new();
+    for _ in 0..random.place(30) {
+        let step = match random.below(8) {
+            0 => Call::Report,
+            1 => loose_step(random, count),
+            _ if terms.is_empty() => Call::Report,
+            _ => bases::random_step(random, &terms),
+        };
+        push_step(&mut steps, step);
+        if every {
+            push_step(&mut steps, Call::Report);
+        }
+    }
+    of(&encode(&terms), &steps)
+}
+
+/// Damage: bytes altered, put in, taken out, or the end cut off.
+fn damage(random: &mut Random, input: &mut Vec<u8>) {
+    for _ in 0..1 + random.below(3) {
+        if input.is_empty() {
+            return;
+        }
+        let place = random.place(input.len());
+        match random.below(6) {
+            0 => input.truncate(place),
+            1 => drop(input.remove(place)),
+            2 => input.insert(place, random.pick(&[0, 1, 2, 3, 4, 0x7F, 0x80, 0xFF])),
+            3 => input[place] |= 0x80,
+            4 => input[place] = random.below(8) as u8,
+            _ => input[place] = random.next() as u8,
+        }
+    }
+}
+
+/// A symbol over terms.
+fn over(symbol: u32, arguments: &[u32]) -> Term {
+    Term::Application { symbol, arguments: arguments.to_vec() }
+}
+
+/// Variables, and then terms of one symbol over some of them.
+fn wide_book(random: &mut Random, count: usize) -> Vec<Term> {
+    let variables = 2 + random.place(count / 2);
+    let arity = 1 + random.place(8);
+    (0..count)
+        .map(|own| {
+            if own < variables {
+                Term::Variable
+            } else {
+                let arguments: Vec<u32> = (0..arity).map(|_| random.place(own) as u32).collect();
+                over(7, &arguments)
+            }
+        })
+        .collect()
+}
+
+/// Steps up to a length, the last ones reports.
+fn filled(random: &mut Random, terms: &[Term], length: usize, reports: u64) -> Vec<u8> {
+    let book = encode(terms);
+    let mut steps = Vec::new();
+    let room = length - of(&book, &[]).len();
+    while steps.len() + 7 <= room {
+        let step = match random.below(reports) {
+            0 => Call::Report,
+            1 => loose_step(random, terms.len()),
+            _ => bases::random_step(random, terms),
+        };
+        push_step(&mut steps, step);
+    }
+    steps.resize(room, 3);
+    of(&book, &steps)
+}
+
+/// A session as long as one may be, or a byte longer; or one of more lines than there may be; or one that needs more entries than
+/// the capacity.
+fn long(random: &mut Random, kind: u64) -> Vec<u8> {
+    match kind % 5 {
+        0 => {
+            let terms = bases::narrow_book(random, 40);
+            filled(random, &terms, LONGEST, 40)
+        }
+        1 => {
+            let terms = bases::narrow_book(random, 40);
+            let beyond = 1 + random.place(2) * random.place(9_000);
+            filled(random, &terms, LONGEST + beyond, 40)
+        }
+        2 => {
+            // 257 lines and more
+            let terms = bases::narrow_book(random, 30);
+            let mut steps = Vec::new();
+            for _ in 0..260 {
+                push_step(&mut steps, Call::Add { l: random.place(30) as u32, r: random.place(30) as u32 });
+            }
+            steps.push(3);
+            of(&encode(&terms), &steps)
+        }
+        3 => {
+            // lines over many variables: the table fills up
+            let terms = wide_book(random, 400);
+            let mut steps = Vec::new();
+            for _ in 0..256 {
+                push_step(&mut steps, Call::Add { l: random.place(400) as u32, r: random.place(400) as u32 });
+            }
+            steps.push(3);
+            of(&encode(&terms), &steps)
+        }
+        _ => {
+            let terms = wide_book(random, 1_024);
+            let length = 20_000 + random.place(10_000);
+            filled(random, &terms, length, 200)
+        }
+    }
+}
+
+fn random_session(seed: u64) -> Vec<u8> {
+    let mut random = Random(seed);
+    if seed % LONG_EVERY == 0 {
+        return long(&mut random, seed / LONG_EVERY);
+    }
+    let mut input = small(&mut random);
+    if random.below(2) == 0 {
+        damage(&mut random, &mut input);
+    }
+    input
+}
+
+/// What a run has seen: all lines, reports, and for each refusal the lines that print it alone; at 0 those of accepted openings.
+#[derive(Default)]
+struct Census {
+    refusals: [u64; 14],
+    reports: u64,
+    lines: u64,
+}
+
+impl Census {
+    fn note(&mut self, printed: &str) {
+        for line in printed.lines() {
+            self.lines += 1;
+            match line.split_once(' ') {
+                None => self.refusals[line.parse::<usize>().expect("a refusal")] += 1,
+                Some((_, numbers)) if numbers.contains(' ') && numbers.split(' ').count() > 2 => self.reports += 1,
+                Some(_) => {}
+            }
+        }
+    }
+
+    /// Every refusal but 7 and 13, which do not arise, was printed.
+    fn complete(&self) -> Result<(), String> {
+        for refusal in 0..14 {
+            let arises = refusal != 7 && refusal != 13;
+            if (self.refusals[refusal] > 0) != arises {
+                return Err(format!("refusal {refusal} was printed {} times", self.refusals[refusal]));
+            }
+        }
+        Ok(())
+    }
+}
+
+/// docs/SPEC.md's sessions and what they print.
+fn worked() -> Vec<(Vec<u8>, &'static str)> {
+    let book_a = [6, 0, 4, 0, 2, 1, 0, 2, 1, 1, 3, 2, 2, 0, 3, 2, 3, 1];
+    let sample = "0\n0 0\n0 1 0 3 4 5 3 2 1 2 2 3 2 1 2 0 1 0\n0 1 0\n0 1 0 3 4 4 3 2 1 2 2 2 2 1 2 0 0 4 0\n";
+    vec![
+        (vec![], "1\n"),
+        (vec![2, 0], "1\n"),
+        (vec![0x80, 0], "2\n"),
+        (vec![1, 0, 5], "0\n8\n"),
+        (vec![1, 0, 1, 0, 0, 3], "0\n8\n0 0 0\n"),
+        (vec![1, 0, 3, 0x80], "0\n0 0 0\n1\n"),
+        (of(&book_a, &[1, 4, 5, 3, 2, 0, 1, 3]), sample),
+    ]
+}
+
+/// Two trees of eight arguments over as many variables as there may be: a table of as many entries as the capacity, each with
+/// numbers as long as they can be, and reports up to the last byte.
+fn slowest() -> Vec<u8> {
+    let mut terms = vec![Term::Variable; 24];
+    while terms.len() < 1_024 {
+        let own = terms.len() as u32;
+        let arguments: Vec<u32> = (0..8).map(|i| own - 1 - (i * 3 + own % 3) % 24.min(own)).collect();
+        terms.push(over(4_095, &arguments));
+    }
+    let book = encode(&terms);
+    let mut steps = Vec::new();
+    let mut input = of(&book, &[]);
+    let mut line = 0;
+    while line < 256 {
+        push_step(&mut steps, Call::Add { l: 1_023 - line, r: 1_022 - line });
+        line += 1;
+    }
+    input.extend(steps);
+    input.resize(LONGEST, 3);
+    input
+}
+
+fn compare(name: &str, input: &[u8], expected: &str, piece: usize, pause: u64) -> bool {
+    match printed(input, piece, Duration::from_millis(pause)) {
+        Ok(ours) if ours == expected => true,
+        Ok(ours) => {
+            let line = ours.lines().zip(expected.lines()).take_while(|(a, b)| a == b).count();
+            let show = |text: &str| text.lines().nth(line).unwrap_or("nothing").chars().take(100).collect::<String>();
+            println!("{name}: line {line} is '{}', expected '{}'", show(&ours), show(expected));
+            false
+        }
+        Err(error) => {
+            println!("{name}: {error}");
+            false
+        }
+    }
+}
+
+/// The program ends where nobody takes what it prints: the output closed after a byte, and closed from the start.
+fn output_closed() -> bool {
+    let input = of(&[1, 0], &vec![3; 60_000]);
+    let mut child = program().spawn().expect("the program");
+    let mut stdin = child.stdin.take().expect("a pipe");
+    let writer = thread::spawn(move || drop(stdin.write_all(&input)));
+    let mut stdout = child.stdout.take().expect("a pipe");
+    let mut byte = [0];
+    let read = stdout.read_exact(&mut byte).is_ok();
+    drop(stdout);
+    let ended = child.wait().is_ok();
+    writer.join().expect("the writer");
+    let closed = Command::new("sh").args(["-c", &format!("printf '\\001\\000\\003' | {PROGRAM} >&-")]).status();
+    read && ended && closed.is_ok()
+}
+
+fn main() {
+    if let Some(name) = std::env::args().nth(1) {
+        std::fs::write(&name, slowest()).expect("the file is written");
+        return;
+    }
+    let (mut passed, mut failed) = (0, 0);
+    let mut test = |holds: bool| if holds { passed += 1 } else { failed += 1 };
+    for (i, (input, expected)) in worked().into_iter().enumerate() {
+        test(session(&input) == expected);
+        test(compare(&format!("worked {i}"), &input, expected, usize::MAX, 0));
+        test(compare(&format!("worked {i} byte by byte"), &input, expected, 1, 2));
+    }
+    test(output_closed());
+    let mut census = Census::default();
+    for i in 0..SESSIONS {
+        let seed = FIRST_SEED + i;
+        let input = random_session(seed);
+        let expected = session(&input);
+        census.note(&expected);
+        test(compare(&format!("seed {seed:#x}"), &input, &expected, [usize::MAX, 1_000][(i % 2) as usize], 0));
+    }
+    println!("{} lines, {} of them reports; by refusal {:?}", census.lines, census.reports, census.refusals);
+    if let Err(error) = census.complete() {
+        println!("{error}");
+        test(false);
+    }
+    println!("{passed} passed, {failed} failed");
+    std::process::exit(i32::from(failed > 0));
+}

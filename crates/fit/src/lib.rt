@@ -5,7 +5,7 @@ ghost use mathlib.Core.List.{[], _∷_};
 ghost use Prim.Native.Nat.{_≤_};
 ghost use lib.ListN.{length};
 ghost use Rattle.model.specs.Limits.{office};
-ghost use Rattle.model.specs.Call.{emit, callOpen, callCopy, callEntry, callReport, callWrite};
+ghost use Rattle.model.specs.Call.{emit, callOpen, callAdd, callBind, callCopy, callEntry, callReport, callWrite};
 ghost use Rattle.model.specs.BookBytes.{bookBytes};
 ghost use Rattle.layout.specs.Rows.{bookOf};
 ghost use Rattle.book.specs.Rows.{encodable};
@@ -52,6 +52,40 @@ pub extern "C" fn fit_open(capacity: u32, book: &[u8], area: &mut [u8]) -> u32
     let terms = decoded.terms;
     store::opened(area, layout::OFFICE, capacity, terms, needed, &rows);
     0
+}
+
+// Adds the line (`l`, `r`): 7 for an area that is not sound, 8 where one is no term, 12 where there is no room for a line, 11 where
+// there is none for its entries. `entry` is the line's entry, 0 on a refusal.
+#[no_mangle]
+pub extern "C" fn fit_add(area: &mut [u8], l: u32, r: u32, entry: &mut u32) -> u32
+    ensures refusal { λ n. ⌜ n ≡ callAdd office (now (area .entry)) l r .refusal ⌝ }
+    ensures entry { λ n. ⌜ now (entry .exit) ∷ [] ≡ callAdd office (now (area .entry)) l r .numbers ⌝ }
+    ensures area { λ n. ⌜ now (area .exit) ≡ callAdd office (now (area .entry)) l r .area ⌝ }
+{
+    let s = office::step(area, false, l, r);
+    *entry = s.first;
+    s.refusal
+}
+
+// Fixes the choice (`v`, `t`): 7 for an area that is not sound, 8 where one is no term, 9 where `v` is not a free variable, 10 where
+// it occurs in the value of `t`, 11 where there is no room for the entries. `turned` and `appended` are how many old entries turned
+// and how many were appended, 0 on a refusal.
+#[no_mangle]
+pub extern "C" fn fit_bind(
+    area: &mut [u8],
+    v: u32,
+    t: u32,
+    turned: &mut u32,
+    appended: &mut u32,
+) -> u32
+    ensures refusal { λ n. ⌜ n ≡ callBind office (now (area .entry)) v t .refusal ⌝ }
+    ensures counts { λ n. ⌜ now (turned .exit) ∷ now (appended .exit) ∷ [] ≡ callBind office (now (area .entry)) v t .numbers ⌝ }
+    ensures area { λ n. ⌜ now (area .exit) ≡ callBind office (now (area .entry)) v t .area ⌝ }
+{
+    let s = office::step(area, true, v, t);
+    *turned = s.first;
+    *appended = s.second;
+    s.refusal
 }
 
 // A refusal of a call that answers one number, which is 0 then.

@@ -6,7 +6,9 @@ ghost use Prim.Native.Nat.{_*_};
 ghost use lib.ListN.{length};
 ghost use Rattle.model.specs.Limits.{office};
 ghost use Rattle.model.specs.Area.{termWords, entryRowWords, sound};
+ghost use Rattle.calls.specs.Called.{callStep, Called};
 ghost use Rattle.office.specs.Held.{Held};
+use steps::Stepped;
 
 // The words of the largest table.
 pub const TABLE_WORDS: usize = layout::ENTRY_WORDS * layout::OFFICE_CAPACITY;
@@ -49,5 +51,40 @@ pub fn read(
         &mut rights,
         &mut heads,
         &mut next,
+    )
+}
+
+// Fixes the choice (`a`, `b`), or adds the line (`a`, `b`), on an area of any length and any bytes.
+pub fn step(area: &mut [u8], fixes: bool, a: u32, b: u32) -> Stepped
+    ensures { λ s. ⌜ Called (callStep office fixes (now (area .entry)) a b) fixes s (now (area .exit)) ⌝ }
+{
+    let mut rows = [0u32; layout::TERM_WORDS * layout::OFFICE_TERMS];
+    let mut bindings = [0u32; layout::OFFICE_TERMS];
+    let mut lines = [0u32; layout::OFFICE_LINES];
+    let mut entries = [0u32; TABLE_WORDS];
+    let mut list = [0u32; layout::OFFICE_TERMS];
+    let mut roots = [0u32; layout::OFFICE_TERMS];
+    let mut names = [0u32; layout::OFFICE_TERMS];
+    let mut heads = [0u32; pairs::BUCKETS];
+    let mut lefts = [0u32; PAIRS];
+    let mut rights = [0u32; PAIRS];
+    let mut next = [0u32; PAIRS];
+    calls::step(
+        &mut rows,
+        &mut bindings,
+        &mut lines,
+        &mut entries,
+        area,
+        layout::OFFICE,
+        &mut list,
+        &mut roots,
+        &mut names,
+        &mut lefts,
+        &mut rights,
+        &mut heads,
+        &mut next,
+        fixes,
+        a,
+        b,
     )
 }

@@ -10,7 +10,7 @@ mod reference;
 mod samples;
 
 use bases::Base;
-use reference::{faults, perform, Answer, Call, Fault, Faults, Limits, Random, OFFICE};
+use reference::{faults, perform, times, Answer, Call, Fault, Faults, Limits, Random, OFFICE};
 use samples::Tally;
 
 const CASES: u64 = 200_000;
@@ -177,7 +177,7 @@ fn run_cases() -> Outcome {
     let large = bases::large(&mut random);
     let mut outcome = Outcome::default();
     let (mut area, mut copy) = (Vec::new(), Vec::new());
-    for case in 1..=CASES {
+    for case in 1..=CASES * times() {
         run_case(FIRST_SEED + case, &small, &large, &mut area, &mut copy, &mut outcome);
         if outcome.reading + outcome.writing > 20 {
             break;
@@ -192,7 +192,7 @@ fn main() {
     samples::run(SMALL_LIMITS, perform, &mut tally);
     samples::layout_example(OFFICE, perform, &mut tally);
     let Outcome { census, reading, writing } = run_cases();
-    println!("{CASES} areas from seed {FIRST_SEED:#x}");
+    println!("{} areas from seed {FIRST_SEED:#x}", CASES * times());
     census.print();
     println!("reading an entry: {reading} differ; writing the book: {writing} differ");
     tally.test("every fault occurs, and every point as the only one that fails", census.is_complete());

@@ -13,7 +13,7 @@ mod samples;
 
 use bases::Base;
 use census::{Census, Kind, Sight, EVERY_LENGTH};
-use reference::{decode, encode, perform, Answer, Call, Limits, Random, Term, OFFICE};
+use reference::{decode, encode, perform, times, Answer, Call, Limits, Random, Term, OFFICE};
 use samples::Tally;
 use std::thread;
 
@@ -455,7 +455,7 @@ fn run_share(rest: u64, large: &[Base]) -> (Census, u64) {
     let mut census = Census::new();
     let (mut list, mut second) = (List::new(), Twins::new());
     let mut different = 0;
-    for number in (rest..LISTS).step_by(THREADS as usize) {
+    for number in (rest..LISTS * times()).step_by(THREADS as usize) {
         if let Err(what) = run_list(number, large, &mut list, &mut second, &mut census) {
             println!("list {number}, seed {:#x}: {what}", FIRST_SEED + number);
             different += 1;
@@ -488,7 +488,7 @@ fn main() {
     samples::run(OFFICE, library, &mut tally);
     samples::layout_example(OFFICE, library, &mut tally);
     let (census, different) = run_lists();
-    println!("{LISTS} lists from seed {FIRST_SEED:#x}, {} calls, {different} lists differ", census.calls());
+    println!("{} lists from seed {FIRST_SEED:#x}, {} calls, {different} lists differ", LISTS * times(), census.calls());
     census.print();
     tally.test("each call gives every answer that it can give, and no other", census.has_all_answers());
     tally.test("each call meets damaged areas, unsound and sound", census.has_all_damage());

@@ -4,7 +4,7 @@
 mod fit;
 mod reference;
 
-use reference::{perform, Call, Random, Term, OFFICE};
+use reference::{perform, times, Call, Random, Term, OFFICE};
 
 const CASES: u64 = 120_000;
 const FIRST_SEED: u64 = 0x5EED_0000_0000_0000;
@@ -99,8 +99,9 @@ fn write_back(terms: &[Term], book: &[u8], out: &mut [u8]) -> (u32, usize) {
 }
 
 fn main() {
+    let cases = CASES * times();
     let (mut accepted, mut opening, mut copying) = (0u64, 0u64, 0u64);
-    for case in 0..CASES {
+    for case in 0..cases {
         let seed = FIRST_SEED + case;
         let mut random = Random(seed);
         let book = random_bytes(&mut random);
@@ -117,7 +118,7 @@ fn main() {
             break;
         }
     }
-    println!("{CASES} random books from seed {FIRST_SEED:#x}, {accepted} of them valid");
+    println!("{cases} random books from seed {FIRST_SEED:#x}, {accepted} of them valid");
     println!("opening: {opening} differ; copying: {copying} differ");
     let failed = u32::from(opening > 0) + u32::from(copying > 0);
     println!("{} passed, {failed} failed", 2 - failed);

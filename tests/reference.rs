@@ -17,6 +17,6 @@ mod value;
 pub use area::{Limits, OFFICE};
 pub use book::{decode, encode, push_number, Term};
 pub use calls::{perform, Answer, Call};
-pub use random::{book_over, random_book, Random};
+pub use random::{book_over, random_book, times, Random};
 pub use session::{session, CAPACITY, LONGEST};
 pub use soundness::{faults, Fault, Faults};

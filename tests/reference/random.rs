@@ -31,6 +31,11 @@ impl Random {
     }
 }
 
+/// How many times the usual number of cases is to be done: 1, or what the environment says (`tests/run many`).
+pub fn times() -> u64 {
+    std::env::var("TIMES").map_or(1, |times| times.parse().expect("TIMES is a number"))
+}
+
 /// A valid book of `count` terms over a random choice of symbols.
 pub fn random_book(random: &mut Random, count: usize) -> Vec<Term> {
     let symbols = 1 + random.below(40);

@@ -217,17 +217,19 @@ fn brim(less: usize) -> Base {
     base
 }
 
-/// What the calls are measured on: 64 variables, 64 constants and 896 terms over eight of these, and lines until there is room for
-/// one more and hardly for two.
-pub fn measured(random: &mut Random, capacity: u32) -> Base {
-    let mut terms: Vec<Term> = (0..128).map(|t| if t < 64 { Term::Variable } else { over(t, &[]) }).collect();
-    for _ in 128..1024 {
-        let arguments: Vec<u32> = (0..8).map(|_| random.below(128) as u32).collect();
+/// What the calls are measured on: of `count` terms one in sixteen is a variable, as many are constants, and the others are over
+/// eight of these; and lines until there is room for one more and hardly for two.
+pub fn measured(random: &mut Random, count: u32, capacity: u32) -> Base {
+    let (variables, leaves) = (count / 16, count / 8);
+    let mut terms: Vec<Term> = (0..leaves).map(|t| if t < variables { Term::Variable } else { over(t, &[]) }).collect();
+    for _ in leaves..count {
+        let arguments: Vec<u32> = (0..8).map(|_| random.below(u64::from(leaves)) as u32).collect();
         terms.push(over(4095, &arguments));
     }
     let mut base = Base::opened(&terms, capacity - 9);
-    for line in 0..256 {
-        base.step(Call::Add { l: 128 + 2 * line, r: 129 + 2 * line });
+    let pairs = (0..count).flat_map(|apart| (leaves..count - 1 - apart).step_by(2).map(move |l| (l, l + 1 + apart)));
+    for (l, r) in pairs.take(2 * count as usize) {
+        base.step(Call::Add { l, r });
     }
     let steps = std::mem::take(&mut base.steps);
     base = Base::opened(&terms, capacity);
@@ -235,6 +237,12 @@ pub fn measured(random: &mut Random, capacity: u32) -> Base {
         base.step(step);
     }
     base
+}
+
+/// The bases that are hardest on one part of the work each: a chain of bindings, a deep term, values that are large as trees, a table
+/// filled to the brim.
+pub fn hard() -> [(&'static str, Base); 4] {
+    [("a chain of 1,023 bindings", chain(true)), ("terms 1,024 deep", deep()), ("511 levels, doubled", ladder()), ("a full table", brim(0))]
 }
 
 /// Large books, long chains, deep terms, full tables and lists of lines.

@@ -181,7 +181,7 @@ fn main() {
     copy_row(&book);
     println!("1,024 terms, 896 of them over eight arguments, and a table that is nearly full");
     for capacity in [1024, 2048] {
-        table_rows(&bases::measured(&mut Random(1024), capacity));
+        table_rows(&bases::measured(&mut Random(1024), 1024, capacity));
     }
     show_look_back();
 }

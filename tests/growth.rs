@@ -1,0 +1,142 @@
+//! How the time of each call grows, through the C interface: books of 16, 64, 256 and 1,024 terms with tables of two entries a term,
+//! as a table and as a plot (docs/growth.svg); the inputs that are hardest on one part of the work; and beside each time those for
+//! copying the area's bytes once and for reading each of its words once. By hand: `tests/run growth`. A figure is the best of many
+//! rounds, in microseconds a call.
+
+mod bases;
+mod fit;
+mod reference;
+
+use bases::Base;
+use reference::{perform, Call, Random, OFFICE};
+use std::fmt::Write;
+use std::hint::black_box;
+use std::time::{Duration, Instant};
+
+const SIZES: [u32; 4] = [16, 64, 256, 1024];
+const CALLS: [&str; 6] = ["opening", "adding", "fixing", "reading an entry", "reporting", "writing"];
+const COLOURS: [&str; 6] = ["#1b6ca8", "#c8553d", "#2e8b57", "#8a5a9e", "#b8860b", "#444444"];
+const ROUNDS: usize = 40;
+const REPEATS: usize = 25;
+const LONGEST_REPORT: usize = 47_620;
+
+/// The best time of a call, in microseconds; the area is put back before each, outside the time.
+fn best(start: &[u8], mut work: impl FnMut(&mut [u8]) -> u32) -> f64 {
+    let mut area = start.to_vec();
+    let mut least = Duration::MAX;
+    for _ in 0..ROUNDS {
+        let mut sum = Duration::ZERO;
+        for _ in 0..REPEATS {
+            area.copy_from_slice(start);
+            let clock = Instant::now();
+            let refusal = work(black_box(&mut area));
+            sum += clock.elapsed();
+            assert_eq!(refusal, 0, "a measured call is refused");
+        }
+        least = least.min(sum);
+    }
+    least.as_secs_f64() * 1e6 / REPEATS as f64
+}
+
+/// Of some choices the one that turns most entries, and a line that is accepted, if there are such.
+fn steps(base: &Base) -> (Option<(u32, u32)>, Option<(u32, u32)>) {
+    let terms = u32::from_le_bytes(base.area[4..8].try_into().unwrap());
+    let answer = |call| perform(OFFICE, call, &mut base.area.clone(), &mut []);
+    let choices = (0..terms).flat_map(|v| [0, terms / 16, terms / 8 - 1, terms / 2, terms - 1].map(|t| (v, t))).filter(|&(v, t)| v != t);
+    let accepted = choices.filter(|&(v, t)| answer(Call::Bind { v, t }).refusal == 0);
+    let choice = accepted.max_by_key(|&(v, t)| answer(Call::Bind { v, t }).numbers[0]);
+    let lines = (0..terms.min(40)).flat_map(|i| [(terms - 2 - i, terms - 1 - i), (0, i), (i, i)]);
+    let line = lines.filter(|&(l, r)| l < terms && r < terms).find(|&(l, r)| answer(Call::Add { l, r }).refusal == 0);
+    (choice, line)
+}
+
+/// The times of the six calls on a base, as far as they are accepted there.
+fn times(base: &Base) -> [Option<f64>; 6] {
+    let (choice, line) = steps(base);
+    let mut out = vec![0; LONGEST_REPORT];
+    let (mut first, mut second, mut fields) = (0, 0, [0; 14]);
+    let has_entry = base.area[8..12] != [0; 4];
+    [
+        Some(best(&base.area, |area| fit::open(base.capacity, &base.book, area))),
+        line.map(|(l, r)| best(&base.area, |area| fit::add(area, l, r, &mut first))),
+        choice.map(|(v, t)| best(&base.area, |area| fit::bind(area, v, t, &mut first, &mut second))),
+        has_entry.then(|| best(&base.area, |area| fit::entry(area, 0, &mut fields))),
+        Some(best(&base.area, |area| fit::report(area, &mut out, &mut first))),
+        Some(best(&base.area, |area| fit::write(area, &mut out, &mut first))),
+    ]
+}
+
+/// The times to copy the area's bytes once, and to read each of its words once.
+fn passes(base: &Base) -> [f64; 2] {
+    let mut copy = base.area.clone();
+    let copied = best(&base.area, |area| {
+        copy.copy_from_slice(area);
+        black_box(&copy);
+        0
+    });
+    let read = best(&base.area, |area| {
+        let words = area.chunks_exact(4).map(|word| u32::from_le_bytes(word.try_into().unwrap()));
+        black_box(words.fold(0, u32::wrapping_add)) & 0
+    });
+    [copied, read]
+}
+
+fn shown(time: Option<f64>) -> String {
+    time.map_or("refused".to_string(), |time| format!("{time:.1}"))
+}
+
+fn row(what: &str, base: &Base) -> [Option<f64>; 6] {
+    let (times, [copied, read]) = (times(base), passes(base));
+    let word = |i: usize| u32::from_le_bytes(base.area[4 * i..4 * i + 4].try_into().unwrap());
+    print!("| {what} | {} | {} |", word(1), word(2));
+    for time in times {
+        print!(" {} |", shown(time));
+    }
+    println!(" {copied:.1} | {read:.1} |");
+    times
+}
+
+/// Where a size and a time stand in the plot, both by their logarithms.
+fn point(terms: u32, time: f64) -> (f64, f64) {
+    let across = (f64::from(terms) / 16.0).log2() / 6.0;
+    let up = (time.log10() + 1.0) / 4.0;
+    (70.0 + 480.0 * across, 370.0 - 340.0 * up)
+}
+
+fn plot(rows: &[[Option<f64>; 6]]) -> String {
+    let mut svg = String::from("<svg xmlns=\"http://www.w3.org/2000/svg\" width=\"720\" height=\"420\" font-family=\"sans-serif\" font-size=\"12\">\n");
+    svg.push_str("<rect width=\"720\" height=\"420\" fill=\"white\"/>\n");
+    for terms in SIZES {
+        let (x, _) = point(terms, 1.0);
+        writeln!(svg, "<line x1=\"{x}\" y1=\"30\" x2=\"{x}\" y2=\"370\" stroke=\"#ddd\"/><text x=\"{x}\" y=\"388\" text-anchor=\"middle\">{terms}</text>").unwrap();
+    }
+    for (time, label) in [(0.1, "0.1 µs"), (1.0, "1 µs"), (10.0, "10 µs"), (100.0, "100 µs"), (1000.0, "1 ms")] {
+        let (_, y) = point(16, time);
+        writeln!(svg, "<line x1=\"70\" y1=\"{y}\" x2=\"550\" y2=\"{y}\" stroke=\"#ddd\"/><text x=\"64\" y=\"{}\" text-anchor=\"end\">{label}</text>", y + 4.0).unwrap();
+    }
+    svg.push_str("<text x=\"310\" y=\"410\" text-anchor=\"middle\">terms of the book; two entries a term</text>\n");
+    for call in 0..CALLS.len() {
+        let points: Vec<String> = SIZES.iter().zip(rows).filter_map(|(&terms, row)| row[call].map(|time| point(terms, time))).map(|(x, y)| format!("{x:.1},{y:.1}")).collect();
+        let y = 60 + 22 * call;
+        writeln!(svg, "<polyline points=\"{}\" fill=\"none\" stroke=\"{}\" stroke-width=\"2\"/>", points.join(" "), COLOURS[call]).unwrap();
+        writeln!(svg, "<line x1=\"570\" y1=\"{y}\" x2=\"592\" y2=\"{y}\" stroke=\"{}\" stroke-width=\"2\"/><text x=\"598\" y=\"{}\">{}</text>", COLOURS[call], y + 4, CALLS[call]).unwrap();
+    }
+    svg.push_str("</svg>\n");
+    svg
+}
+
+fn main() {
+    println!("| | terms | entries | {} | copying the area | reading its words |", CALLS.join(" | "));
+    println!("|---|---|---|{}", "---|".repeat(CALLS.len() + 2));
+    let rows: Vec<[Option<f64>; 6]> = SIZES.iter().map(|&terms| row("growth", &bases::measured(&mut Random(1024), terms, 2 * terms))).collect();
+    print!("| times a doubling, at most | | |");
+    for call in 0..CALLS.len() {
+        let steepest = rows.windows(2).filter_map(|pair| Some((pair[1][call]? / pair[0][call]?).sqrt())).fold(0.0, f64::max);
+        print!(" {steepest:.2} |");
+    }
+    println!(" | |");
+    for (what, base) in bases::hard() {
+        row(what, &base);
+    }
+    std::fs::write("docs/growth.svg", plot(&rows)).expect("docs/growth.svg is written");
+}

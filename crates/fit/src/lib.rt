@@ -26,7 +26,7 @@ pub extern "C" fn fit_area_length(capacity: u32) -> usize
     if layout::OFFICE_CAPACITY < capacity as usize {
         return 0;
     }
-    area::needed_length(layout::OFFICE, capacity as usize)
+    layout::offsets::needed_length(layout::OFFICE, capacity as usize)
 }
 
 // Opens a book in an area: 4 for the capacity, 7 for an area that is too short, then the book's refusals. Where it is
@@ -148,8 +148,8 @@ pub extern "C" fn fit_entry(area: &[u8], i: u32, fields: &mut [u32; layout::ENTR
     if h.entries <= i {
         return 8;
     }
-    let entry = area::entry_at(&entries, i as usize);
-    *fields = area::row_of(entry);
+    let entry = entry::entry_at(&entries, i as usize);
+    *fields = entry::row_of(entry);
     0
 }
 

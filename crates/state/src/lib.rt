@@ -40,7 +40,7 @@ pub fn header_ok(area: &[u8], lim: Limits) -> bool
     if lim.lines < h.lines as usize {
         return false;
     }
-    area::needed_length(lim, capacity) <= area.len()
+    layout::offsets::needed_length(lim, capacity) <= area.len()
 }
 
 // Loads the rows of an area whose header is in order.
@@ -57,9 +57,9 @@ pub fn load(
     ensures { λ _. ⌜ Words (loaded (limitsOf lim) (now (area .entry))) (now (rows .exit)) (now (bindings .exit)) (now (lines .exit)) (now (entries .exit)) ⌝ }
 {
     words::load(area, layout::HEADER_WORDS, rows);
-    words::load(area, area::bindings_at(lim), bindings);
-    words::load(area, area::lines_at(lim), lines);
-    words::load(area, area::entries_at(lim), entries);
+    words::load(area, layout::offsets::bindings_at(lim), bindings);
+    words::load(area, layout::offsets::lines_at(lim), lines);
+    words::load(area, layout::offsets::entries_at(lim), entries);
 }
 
 // Whether the loaded rows pass the tests that look at words alone.

@@ -1,4 +1,4 @@
--- `area::put_words` meets its contract. The loop's invariant: the first `i` words are in place. The measure is what is left of
+-- `entry::put_words` meets its contract. The loop's invariant: the first `i` words are in place. The measure is what is left of
 -- the words. Assumes nothing.
 use mathlib.Core.Path.{_≡_, refl, ap, _∙_}
 use Prim.Native.Nat.{_≤_, _-_}
@@ -7,8 +7,8 @@ use native.Mathlib.Omega.{arith}
 use lib.ListN.{length, length-set}
 use lib.Seq.{paste, paste-zero, paste-suc}
 use denote.Ref.{now}
-use Rattle.area.proofs.put_words.Statement.{statement}
-use Rattle.area.proofs.put_words.Tie as tie
+use Rattle.entry.proofs.put_words.Statement.{statement}
+use Rattle.entry.proofs.put_words.Tie as tie
 
 abbrev Inv-loop : tie.InvT-loop
 Inv-loop rows₀ at words i₀ rows i = (i ≤ length words) × (length rows ≡ length rows₀) × (rows ≡ paste rows₀ at words i)

@@ -1,13 +1,13 @@
--- `area::row_of` meets its contract: the words are the fields, and the eight arguments one by one. Assumes nothing.
+-- `entry::row_of` meets its contract: the words are the fields, and the eight arguments one by one. Assumes nothing.
 use mathlib.Core.Path.{_≡_}
 use lib.ListN.{length}
 use Rattle.model.specs.Limits.{maxArity}
 use Rattle.model.specs.Lists.{from}
-use Rattle.area.specs.Row.{rowOf}
+use Rattle.entry.specs.Row.{rowOf}
 use Rattle.words.proofs.Elements.{every}
 use borrow.Author.Needs.{needs}
-use Rattle.area.proofs.row_of.Statement.{statement}
-use Rattle.area.proofs.row_of.Tie as tie
+use Rattle.entry.proofs.row_of.Statement.{statement}
+use Rattle.entry.proofs.row_of.Tie as tie
 
 returns : tie.Need-returns
 unfolding rowOf from

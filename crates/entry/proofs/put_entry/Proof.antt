@@ -1,4 +1,4 @@
--- `area::put_entry` meets its contract: the words put are the entry's. Assumes nothing.
+-- `entry::put_entry` meets its contract: the words put are the entry's. Assumes nothing.
 use mathlib.Core.Path.{_≡_, ap₂, _∙_}
 use Prim.Native.Nat.{_*_}
 use lib.ListN.{length}
@@ -6,8 +6,8 @@ use lib.Seq.{paste}
 use denote.Ref.{now}
 use Rattle.model.specs.Area.{entryRowWords}
 use borrow.Author.Needs.{needs}
-use Rattle.area.proofs.put_entry.Statement.{statement}
-use Rattle.area.proofs.put_entry.Tie as tie
+use Rattle.entry.proofs.put_entry.Statement.{statement}
+use Rattle.entry.proofs.put_entry.Tie as tie
 
 returns : tie.Need-returns
 returns c =

@@ -1,9 +1,9 @@
--- `area::needed_length` meets its contract: the length is a sum of multiples. Assumes nothing.
+-- `layout::offsets::needed_length` meets its contract: the length is a sum of multiples. Assumes nothing.
 use native.Mathlib.Omega.{arith}
 use Rattle.model.specs.Area.{areaLength}
 use borrow.Author.Needs.{needs}
-use Rattle.area.proofs.needed_length.Statement.{statement}
-use Rattle.area.proofs.needed_length.Tie as tie
+use Rattle.layout.proofs.offsets.needed_length.Statement.{statement}
+use Rattle.layout.proofs.offsets.needed_length.Tie as tie
 
 entries-at-requires : tie.Need-entries-at-requires
 entries-at-requires c κs = search needs

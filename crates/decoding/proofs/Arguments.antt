@@ -10,7 +10,8 @@ use lib.Seq.{sets}
 use Rattle.model.specs.Area.{termWords}
 use Rattle.model.specs.BookBytes.{parsed, unparsed, parseArguments}
 use Rattle.decoding.specs.declared.parse.Step.the-variants.{Next}
-use Rattle.decoding.specs.Parts.{parseBelow, StepOf, ArgumentsIn}
+use Rattle.reader.specs.Below.{parseBelow}
+use Rattle.decoding.specs.Parts.{StepOf, ArgumentsIn}
 use Rattle.decoding.proofs.Parsing.{behind, behind-none, behind-more, behind-refused, behind-last}
 use Rattle.decoding.proofs.TermRows.{sets-more}
 

@@ -12,7 +12,8 @@ use Rattle.model.specs.Limits.{maxArity, maxSymbol}
 use Rattle.model.specs.Term.{Book}
 use Rattle.model.specs.BookBytes.{parsed, andThen, need, parseNumber, parseApp, parseNode, parseTerms}
 use Rattle.layout.proofs.Counts.{Counted}
-use Rattle.decoding.specs.Parts.{parseBelow, parseCounted, parseTagged, parseTerm}
+use Rattle.reader.specs.Below.{parseBelow}
+use Rattle.decoding.specs.Parts.{parseCounted, parseTagged, parseTerm}
 use Rattle.decoding.proofs.Parsing.{then-then, then-alike, up-to-then}
 
 module _ (before : Book) (counts : List ℕ) (h : Counted before counts) where

@@ -13,7 +13,8 @@ use Rattle.model.specs.BookBytes.{Parsed, parsed, unparsed, andThen, need, pars
 use Rattle.decoding.specs.declared.parse.Step.{Step}
 use Rattle.decoding.specs.declared.parse.Step.the-variants.{Next, Refused}
 use Rattle.layout.specs.Counts.{fitsEntry, noted}
-use Rattle.decoding.specs.Parts.{parseBelow, parseCounted, parseTagged, parseTerm, rowNumbers, StepOf, ArgumentsIn, TermIn}
+use Rattle.reader.specs.Below.{parseBelow}
+use Rattle.decoding.specs.Parts.{parseCounted, parseTagged, parseTerm, rowNumbers, StepOf, ArgumentsIn, TermIn}
 
 -- what holds of a part that is made of another
 step-made : {A B : Type 0} (bytes : List ℕ) (p : Parsed A) (P : A → Type 0) (q : Parsed B) (Q : B → Type 0) (f : A → B)

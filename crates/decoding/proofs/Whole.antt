@@ -14,7 +14,8 @@ use Rattle.theory.proofs.Book.Opening.{book-positive}
 use Rattle.decoding.specs.declared.parse.Step.{Step}
 use Rattle.decoding.specs.declared.parse.Step.the-variants.{Next, Refused}
 use Rattle.decoding.specs.Rows.{bookRows, refusalOf, decodedBook}
-use Rattle.decoding.specs.Parts.{parseBelow, StepOf, BookIn}
+use Rattle.reader.specs.Below.{parseBelow}
+use Rattle.decoding.specs.Parts.{StepOf, BookIn}
 use Rattle.decoding.proofs.Parsing.{up-to-then}
 
 -- ---- the outcomes

@@ -1,27 +1,19 @@
--- The parts of decoding a book, by position and with a table of the symbols' counts, and what the reader of each part
+-- The parts of decoding a book, by position and with a table of the symbols' counts, and what each part
 -- answers. Assumes nothing: these are definitions.
 use mathlib.Core.Path.{_≡_}
 use mathlib.Core.List.{List, [], _∷_}
 use Prim.Native.Nat.{ℕ, zero, suc, _+_, _*_}
 use lib.ListN.{length, getD, drop}
 use lib.Seq.{sets}
-use lib.Dec.{ltb}
 use Rattle.model.specs.Limits.{maxArity, maxSymbol}
 use Rattle.model.specs.Term.{Node, var, app, Book}
-use Rattle.model.specs.BookBytes.{Parsed, parsed, unparsed, andThen, need, parseNumber, parseArguments}
+use Rattle.model.specs.BookBytes.{Parsed, parsed, unparsed, andThen, need, parseArguments}
 use Rattle.model.specs.Area.{termWords}
 use Rattle.layout.specs.Counts.{fitsEntry, noted, Suits}
-use denote.Ref.{now}
+use Rattle.reader.specs.Below.{parseBelow}
 use Rattle.decoding.specs.Rows.{bookRows}
-use Rattle.decoding.specs.declared.reader.Part.{Part}
-use Rattle.decoding.specs.declared.reader.Part.the-variants.{Value, Refused as NoPart}
-use Rattle.decoding.specs.declared.reader.Reader.{Reader}
 use Rattle.decoding.specs.declared.parse.Step.{Step}
-use Rattle.decoding.specs.declared.parse.Step.the-variants.{Next, Refused as NoStep}
-
--- A number below the limit (else the refusal k): refusals 1, 2 and k.
-unfoldable pub parseBelow : ℕ → ℕ → List ℕ → Parsed ℕ
-parseBelow limit k bytes = andThen (parseNumber bytes) (λ n rest. need (ltb n limit) k (parsed n rest))
+use Rattle.decoding.specs.declared.parse.Step.the-variants.{Next, Refused}
 
 -- Term t of symbol s, from its count on.
 unfoldable pub parseCounted : List ℕ → ℕ → ℕ → List ℕ → Parsed Node
@@ -43,19 +35,10 @@ unfoldable pub rowNumbers : Node → List ℕ
 rowNumbers var = []
 rowNumbers (app s args) = suc s ∷ length args ∷ args
 
--- The bytes that a reader has yet to read: those from its position on.
-abbrev pub unread : Reader → List ℕ
-unread r = drop (r .at) (now (r .src))
-
--- The outcome that a reader of a number answers.
-abbrev pub partOf : List ℕ → Part → Parsed ℕ
-partOf bytes (Value n next) = parsed n (drop next bytes)
-partOf bytes (NoPart k) = unparsed k
-
--- The outcome p is what a reader answers, and P holds of what was decoded.
+-- The outcome p is what a part answers, and P holds of what was decoded.
 abbrev pub StepOf : {A : Type 0} → List ℕ → Parsed A → (A → Type 0) → Step → Type 0
 StepOf {A} bytes p P (Next next) = (a : A) × (p ≡ parsed a (drop next bytes)) × P a
-StepOf {A} bytes p P (NoStep k) = p ≡ unparsed k
+StepOf {A} bytes p P (Refused k) = p ≡ unparsed k
 
 -- The arguments of term t stand in its row, c of them.
 pub record ArgumentsIn (t c : ℕ) (rows rows′ : List ℕ) (args : List ℕ) : Type 0 where

@@ -1,7 +1,6 @@
 // A book's bytes into term rows (specs/Rows.antt; docs/SPEC.md, "Bytes").
 
 mod parse;
-mod reader;
 
 ghost use mathlib.Core.Path.{_≡_};
 ghost use Prim.Native.Nat.{_*_};

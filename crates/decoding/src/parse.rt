@@ -1,6 +1,6 @@
 // Decoding a book, part by part and in document 01's order: in a term symbol (4), count (4), rule 6, arguments (5); then all
 // terms. Each part starts at a position of the bytes and gives the position after it, or a refusal (specs/Parts.antt). Its
-// numbers are read through a reader (reader.rt).
+// numbers are read through a reader (crate reader).
 
 ghost use mathlib.Core.Path.{_≡_};
 ghost use mathlib.Core.List.{[]};
@@ -10,8 +10,8 @@ ghost use Rattle.model.specs.Limits.{maxArity, maxSymbol};
 ghost use Rattle.model.specs.Area.{termWords};
 ghost use Rattle.model.specs.BookBytes.{parseArguments, parseTerms};
 ghost use Rattle.decoding.specs.Parts.{parseCounted, parseTerm, StepOf, ArgumentsIn, TermIn, BookIn};
-use crate::reader::Part;
-use crate::reader::read_below;
+use reader::Part;
+use reader::read_below;
 
 // A count of arguments, and a term's first number (0, or its symbol plus 1), are below these.
 const COUNTS: u32 = layout::MAX_ARITY as u32 + 1;

@@ -7,8 +7,8 @@ use denote.Ref.{now}
 use lib.ListN.{length, drop}
 use Rattle.model.specs.Area.{termWords}
 use Rattle.model.specs.BookBytes.{parsed}
-use Rattle.decoding.specs.Parts.{partOf, parseBelow}
-use Rattle.decoding.proofs.Parsing.{below-small}
+use Rattle.reader.specs.Below.{partOf, parseBelow}
+use Rattle.reader.proofs.Below.{below-small}
 use Rattle.decoding.proofs.Whole.{zeros-length, refused-count, refused-terms, refused-end, whole-book}
 use Rattle.decoding.proofs.decode.Statement.{statement}
 use Rattle.decoding.proofs.decode.Tie as tie

@@ -9,8 +9,8 @@ use denote.Ref.{now}
 use lib.ListN.{drop, length-set}
 use Rattle.model.specs.Limits.{maxArity}
 use Rattle.model.specs.BookBytes.{parsed}
-use Rattle.decoding.specs.Parts.{partOf, parseBelow}
-use Rattle.decoding.proofs.Parsing.{below-small}
+use Rattle.reader.specs.Below.{partOf, parseBelow}
+use Rattle.reader.proofs.Below.{below-small}
 use Rattle.decoding.proofs.Term.{counted-broken, counted-refused, app-read}
 use Rattle.decoding.proofs.parse.read_app.Statement.{statement}
 use Rattle.decoding.proofs.parse.read_app.Tie as tie

@@ -6,7 +6,7 @@ use native.Mathlib.Omega.{arith}
 use borrow.Author.Needs.{needs}
 use denote.Ref.{now}
 use lib.ListN.{length, length-set}
-use Rattle.decoding.specs.Parts.{partOf}
+use Rattle.reader.specs.Below.{partOf}
 use Rattle.decoding.proofs.Arguments.{Read, read-none, read-more, read-refused, read-all}
 use Rattle.decoding.proofs.parse.read_arguments.Statement.{statement}
 use Rattle.decoding.proofs.parse.read_arguments.Tie as tie

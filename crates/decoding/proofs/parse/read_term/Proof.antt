@@ -9,8 +9,8 @@ use lib.ListN.{drop}
 use Rattle.model.specs.Limits.{maxSymbol}
 use Rattle.model.specs.Term.{var}
 use Rattle.model.specs.BookBytes.{parsed}
-use Rattle.decoding.specs.Parts.{partOf, parseBelow}
-use Rattle.decoding.proofs.Parsing.{below-small}
+use Rattle.reader.specs.Below.{partOf, parseBelow}
+use Rattle.reader.proofs.Below.{below-small}
 use Rattle.decoding.proofs.Term.{term-var, term-app, term-refused, var-in}
 use Rattle.decoding.proofs.parse.read_term.Statement.{statement}
 use Rattle.decoding.proofs.parse.read_term.Tie as tie

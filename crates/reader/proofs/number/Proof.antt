@@ -1,4 +1,4 @@
--- `decoding::reader::number` meets its contract: a walk of its code, by hand. The reader is taken apart, and `number_at` is called
+-- `reader::number` meets its contract: a walk of its code, by hand. The reader is taken apart, and `number_at` is called
 -- on the slice and the position; all that is known of it is its contract. A reader is Copy: of what it owns, had twice, one
 -- copy is kept for the exit, and of the other what `src` owns goes to the callee, beside the lifetime's token, which comes
 -- back. Assumes nothing.
@@ -44,21 +44,21 @@ use denote.Triple.Table.{entered, cited}
 use denote.Triple.Walked.{says, Stays, stay-none, walkOf, goes-none, Walks, ends-at, walked, walk-meets}
 use denote.Exit.{yes}
 use denote.Triple.Clauses.{ensured, lasts}
-use Rattle.decoding.specs.Parts.{parseBelow, partOf}
-use Rattle.decoding.specs.declared.reader.Reader.{Reader}
-use Rattle.decoding.specs.declared.reader.Part.{Part}
-use Rattle.decoding.proofs.reader.Reader as T
-use Rattle.decoding.proofs.reader.Reader.Laws as T′
-use Rattle.decoding.proofs.reader.Part as P
-use Rattle.decoding.proofs.reader.Part.Laws as P′
-use Rattle.decoding.proofs.reader.number_at as number-at
-use Rattle.decoding.proofs.reader.number_at.Symbol as number-at-def
-use Rattle.decoding.proofs.reader.number_at.Symbol.{name as #number-at}
-use Rattle.decoding.proofs.reader.number_at.Met as number-at-thm
-use Rattle.decoding.proofs.reader.number.Key.{name as #number}
-use Rattle.decoding.proofs.reader.number as number
-use Rattle.decoding.proofs.reader.number.Statement as stated
-use Rattle.decoding.proofs.reader.number.Code as code
+use Rattle.reader.specs.Below.{parseBelow, partOf}
+use Rattle.reader.specs.declared.Reader.{Reader}
+use Rattle.reader.specs.declared.Part.{Part}
+use Rattle.reader.proofs.Reader as T
+use Rattle.reader.proofs.Reader.Laws as T′
+use Rattle.reader.proofs.Part as P
+use Rattle.reader.proofs.Part.Laws as P′
+use Rattle.reader.proofs.number_at as number-at
+use Rattle.reader.proofs.number_at.Symbol as number-at-def
+use Rattle.reader.proofs.number_at.Symbol.{name as #number-at}
+use Rattle.reader.proofs.number_at.Met as number-at-thm
+use Rattle.reader.proofs.number.Key.{name as #number}
+use Rattle.reader.proofs.number as number
+use Rattle.reader.proofs.number.Statement as stated
+use Rattle.reader.proofs.number.Code as code
 
 -- the reader's type, over the signature's lifetimes
 abbrev B : Lfts 1 → RattleType
@@ -172,4 +172,4 @@ number-spec 𝓤 H 𝓜 𝓖 𝓡 =
     entered 𝓤 H (tripleOf 𝓤 H (𝓖 .A) number.signature (number.spec 𝓤 H (𝓖 .A) (𝓜 .mem) (𝓡 .run)))
     (tables 𝓤 H 𝓜 𝓡 code.env .C) (tables 𝓤 H 𝓜 𝓡 code.env .Λ) #number code.function (code.unfolded 𝓤 H 𝓜 𝓡)
     (number-meets 𝓤 H (𝓖 .A) (givenOf 𝓤 H 𝓜 𝓖) (𝓜 .mem) (𝓡 .run) (tablesOf 𝓤 H 𝓜 (tables 𝓤 H 𝓜 𝓡 code.env))
-    (cited 𝓤 H (NumberAt 𝓤 H (𝓖 .A) (𝓜 .mem) (𝓡 .run)) 𝓜 𝓡 code.env #number-at number-at-def.routine code.calls-decoding·reader·number-at (number-at-thm.met 𝓤 H 𝓜 𝓖 𝓡)))
+    (cited 𝓤 H (NumberAt 𝓤 H (𝓖 .A) (𝓜 .mem) (𝓡 .run)) 𝓜 𝓡 code.env #number-at number-at-def.routine code.calls-reader·number-at (number-at-thm.met 𝓤 H 𝓜 𝓖 𝓡)))

@@ -1,4 +1,4 @@
--- `decoding::reader::new` meets its contract: a walk of its code, by hand. A reader is made of the slice and the position, in the
+-- `reader::new` meets its contract: a walk of its code, by hand. A reader is made of the slice and the position, in the
 -- result's local. A slice is Copy, so what it owns is had twice: for `src` at exit, and inside the result. Assumes nothing.
 use mathlib.Core.Path.{refl}
 use Prim.Native.Nat.{ℕ, _<_, _^_}
@@ -33,13 +33,13 @@ use denote.Triple.Spec.{Meets, tripleOf}
 use denote.Triple.Table.{entered}
 use denote.Triple.Walked.{says, Stays, stay-none, stay-none-slice, walkOf, goes-none, goes-none-slice, Walks, ends-at, walked, walk-meets}
 use denote.Exit.{yes}
-use Rattle.decoding.specs.declared.reader.Reader.{Reader}
-use Rattle.decoding.proofs.reader.Reader as T
-use Rattle.decoding.proofs.reader.Reader.Laws as T′
-use Rattle.decoding.proofs.reader.new.Key.{name as #new}
-use Rattle.decoding.proofs.reader.new as new
-use Rattle.decoding.proofs.reader.new.Statement as stated
-use Rattle.decoding.proofs.reader.new.Code as code
+use Rattle.reader.specs.declared.Reader.{Reader}
+use Rattle.reader.proofs.Reader as T
+use Rattle.reader.proofs.Reader.Laws as T′
+use Rattle.reader.proofs.new.Key.{name as #new}
+use Rattle.reader.proofs.new as new
+use Rattle.reader.proofs.new.Statement as stated
+use Rattle.reader.proofs.new.Code as code
 
 abbrev stayed : Stays (new.ended .signature .params) (new.ended .kept)
 stayed = (stay-none-slice (0 ∷ []) tt (plain (λ _. u8)) yes, (stay-none (λ _. usize) yes, tt))

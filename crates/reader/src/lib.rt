@@ -1,10 +1,10 @@
 // The numbers of a book, each read by a reader at its position (document 01, "The shape of each place"). What takes or makes a
-// reader is proved by a walk of its code, by hand, so it is little, and stays in this file: `new`, `number`, and above them
-// `read_below`, which all of decoding calls with a slice and a position (parse.rt, lib.rt).
+// reader is proved by a walk of its code, by hand, so it is little: `new`, `number`, and above them `read_below`, which all of
+// decoding calls with a slice and a position.
 
 ghost use mathlib.Core.Path.{_≡_};
 ghost use lib.ListN.{drop};
-ghost use Rattle.decoding.specs.Parts.{parseBelow, partOf, unread};
+ghost use Rattle.reader.specs.Below.{parseBelow, partOf, unread};
 
 // A book's bytes and the position that is read next.
 struct Reader<'a> {

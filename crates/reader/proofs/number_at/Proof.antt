@@ -1,10 +1,10 @@
--- `decoding::reader::number_at` meets its contract: what the reader of numbers answers is the model's outcome, and the test
+-- `reader::number_at` meets its contract: what the reader of numbers answers is the model's outcome, and the test
 -- compares with the limit. Assumes nothing.
 use borrow.Author.Needs.{needs}
 use denote.Ref.{now}
-use Rattle.decoding.proofs.Parsing.{number-answered, below-held, below-broken, below-refused}
-use Rattle.decoding.proofs.reader.number_at.Statement.{statement}
-use Rattle.decoding.proofs.reader.number_at.Tie as tie
+use Rattle.reader.proofs.Below.{number-answered, below-held, below-broken, below-refused}
+use Rattle.reader.proofs.number_at.Statement.{statement}
+use Rattle.reader.proofs.number_at.Tie as tie
 
 read-requires : tie.Need-read-requires
 read-requires c κs = search needs

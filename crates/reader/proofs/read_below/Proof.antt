@@ -1,4 +1,4 @@
--- `decoding::reader::read_below` meets its contract: a walk of its code, by hand. The reader that `new` answers is held in a local
+-- `reader::read_below` meets its contract: a walk of its code, by hand. The reader that `new` answers is held in a local
 -- and passed to `number`; all that is known of both is their contracts. In a local the lifetime of the reader's type is erased,
 -- and what a reader owns does not name it. Assumes nothing.
 use mathlib.Core.Path.{_≡_, refl, subst}
@@ -38,25 +38,25 @@ use denote.Triple.Table.{entered, cited}
 use denote.Triple.Walked.{says, Stays, stay-none, stay-none-slice, walkOf, goes-none, goes-none-slice, Walks, ends-at, walked, walk-meets}
 use denote.Exit.{yes}
 use denote.Triple.Clauses.{ensured, lasts}
-use Rattle.decoding.specs.Parts.{parseBelow, partOf, unread}
-use Rattle.decoding.specs.declared.reader.Reader.{Reader}
-use Rattle.decoding.specs.declared.reader.Part.{Part}
-use Rattle.decoding.proofs.reader.Reader as T
-use Rattle.decoding.proofs.reader.Reader.Laws as T′
-use Rattle.decoding.proofs.reader.Part as P
-use Rattle.decoding.proofs.reader.Part.Laws as P′
-use Rattle.decoding.proofs.reader.new as new
-use Rattle.decoding.proofs.reader.new.Symbol as new-def
-use Rattle.decoding.proofs.reader.new.Symbol.{name as #new}
-use Rattle.decoding.proofs.reader.new.Met as new-thm
-use Rattle.decoding.proofs.reader.number as number
-use Rattle.decoding.proofs.reader.number.Symbol as number-def
-use Rattle.decoding.proofs.reader.number.Symbol.{name as #number}
-use Rattle.decoding.proofs.reader.number.Met as number-thm
-use Rattle.decoding.proofs.reader.read_below.Key.{name as #read-below}
-use Rattle.decoding.proofs.reader.read_below as read-below
-use Rattle.decoding.proofs.reader.read_below.Statement as stated
-use Rattle.decoding.proofs.reader.read_below.Code as code
+use Rattle.reader.specs.Below.{parseBelow, partOf, unread}
+use Rattle.reader.specs.declared.Reader.{Reader}
+use Rattle.reader.specs.declared.Part.{Part}
+use Rattle.reader.proofs.Reader as T
+use Rattle.reader.proofs.Reader.Laws as T′
+use Rattle.reader.proofs.Part as P
+use Rattle.reader.proofs.Part.Laws as P′
+use Rattle.reader.proofs.new as new
+use Rattle.reader.proofs.new.Symbol as new-def
+use Rattle.reader.proofs.new.Symbol.{name as #new}
+use Rattle.reader.proofs.new.Met as new-thm
+use Rattle.reader.proofs.number as number
+use Rattle.reader.proofs.number.Symbol as number-def
+use Rattle.reader.proofs.number.Symbol.{name as #number}
+use Rattle.reader.proofs.number.Met as number-thm
+use Rattle.reader.proofs.read_below.Key.{name as #read-below}
+use Rattle.reader.proofs.read_below as read-below
+use Rattle.reader.proofs.read_below.Statement as stated
+use Rattle.reader.proofs.read_below.Code as code
 
 -- the reader's type, over the signature's lifetimes
 abbrev B : Lfts 1 → RattleType
@@ -185,5 +185,5 @@ read-below-spec 𝓤 H 𝓜 𝓖 𝓡 =
     entered 𝓤 H (tripleOf 𝓤 H (𝓖 .A) read-below.signature (read-below.spec 𝓤 H (𝓖 .A) (𝓜 .mem) (𝓡 .run)))
     (tables 𝓤 H 𝓜 𝓡 code.env .C) (tables 𝓤 H 𝓜 𝓡 code.env .Λ) #read-below code.function (code.unfolded 𝓤 H 𝓜 𝓡)
     (read-below-meets 𝓤 H (𝓖 .A) (givenOf 𝓤 H 𝓜 𝓖) (𝓜 .mem) (𝓡 .run) (tablesOf 𝓤 H 𝓜 (tables 𝓤 H 𝓜 𝓡 code.env))
-    (cited 𝓤 H (New 𝓤 H (𝓖 .A) (𝓜 .mem) (𝓡 .run)) 𝓜 𝓡 code.env #new new-def.routine code.calls-decoding·reader·new (new-thm.met 𝓤 H 𝓜 𝓖 𝓡))
-    (cited 𝓤 H (Number 𝓤 H (𝓖 .A) (𝓜 .mem) (𝓡 .run)) 𝓜 𝓡 code.env #number number-def.routine code.calls-decoding·reader·number (number-thm.met 𝓤 H 𝓜 𝓖 𝓡)))
+    (cited 𝓤 H (New 𝓤 H (𝓖 .A) (𝓜 .mem) (𝓡 .run)) 𝓜 𝓡 code.env #new new-def.routine code.calls-reader·new (new-thm.met 𝓤 H 𝓜 𝓖 𝓡))
+    (cited 𝓤 H (Number 𝓤 H (𝓖 .A) (𝓜 .mem) (𝓡 .run)) 𝓜 𝓡 code.env #number number-def.routine code.calls-reader·number (number-thm.met 𝓤 H 𝓜 𝓖 𝓡)))

@@ -68,17 +68,17 @@ pub fn rows_ok(h: Header, rows: &[u32], bindings: &[u32], lines: &[u32], entries
     ensures { λ r. ⌜ r ≡ rowsOk (held h (now (rows .entry)) (now (bindings .entry)) (now (lines .entry)) (now (entries .entry))) ⌝ }
 {
     let n = h.terms as usize;
-    if !rows::term_rows_ok(rows, n) {
+    if !termrows::term_rows_ok(rows, n) {
         return false;
     }
-    if !rows::bindings_ok(rows, bindings, n) {
+    if !termrows::bindings_ok(rows, bindings, n) {
         return false;
     }
     let m = h.entries as usize;
-    if !rows::lines_ok(lines, h.lines as usize, m) {
+    if !tablerows::lines_ok(lines, h.lines as usize, m) {
         return false;
     }
-    rows::entry_rows_ok(entries, m, n)
+    tablerows::entry_rows_ok(entries, m, n)
 }
 
 // Whether no value contains itself; then lists the `n` terms, and finds what each stands for and its name. `roots` is scratch

@@ -1,12 +1,12 @@
--- `rows::lines_ok` meets its contract: the first words are tested against the limit, and then those behind them. Assumes
+-- `tablerows::lines_ok` meets its contract: the first words are tested against the limit, and then those behind them. Assumes
 -- nothing.
 use mathlib.Core.Path.{sym, _∙_}
 use borrow.Author.Needs.{needs}
 use borrow.Author.Tests.{not-true, not-false}
 use lib.Seq.{length-take-le}
 use Rattle.rows.specs.RowTests.{linesOk}
-use Rattle.rows.proofs.lines_ok.Statement.{statement}
-use Rattle.rows.proofs.lines_ok.Tie as tie
+use Rattle.tablerows.proofs.lines_ok.Statement.{statement}
+use Rattle.tablerows.proofs.lines_ok.Tie as tie
 
 slice-aggregate-all-below : tie.Need-slice-aggregate-all-below
 slice-aggregate-all-below c = sym (length-take-le _ _ (c .before .before .pre))

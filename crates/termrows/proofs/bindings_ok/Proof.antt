@@ -1,4 +1,4 @@
--- `rows::bindings_ok` meets its contract: the loop's invariant says that the bindings of the terms before `t` pass, and the
+-- `termrows::bindings_ok` meets its contract: the loop's invariant says that the bindings of the terms before `t` pass, and the
 -- measure is the terms that are left. Assumes nothing.
 use mathlib.Core.Path.{sym, _∙_}
 use mathlib.Core.Bool.{Bool}
@@ -10,10 +10,10 @@ use borrow.Author.Tests.{not-true, not-false}
 use denote.Ref.{now}
 use Rattle.model.specs.Area.{bindingOk}
 use Rattle.layout.specs.Rows.{nodeOf, bookOf, bindingOf}
 use Rattle.rows.specs.RowTests.{bindingsOk}
 use Rattle.rows.proofs.Loops.{Passed, all-passed, all-broken}
-use Rattle.rows.proofs.bindings_ok.Statement.{statement}
-use Rattle.rows.proofs.bindings_ok.Tie as tie
+use Rattle.termrows.proofs.bindings_ok.Statement.{statement}
+use Rattle.termrows.proofs.bindings_ok.Tie as tie
 
 -- the test of one term
 abbrev one : List ℕ → List ℕ → ℕ → ℕ → Bool

@@ -1,4 +1,4 @@
--- `rows::entry_rows_ok` meets its contract: the loop's invariant says that the rows before row `i` pass, and the measure is
+-- `tablerows::entry_rows_ok` meets its contract: the loop's invariant says that the rows before row `i` pass, and the measure is
 -- the rows that are left. Assumes nothing.
 use mathlib.Core.Path.{sym, _∙_}
 use Prim.Native.Nat.{_-_}
@@ -6,10 +6,10 @@ use borrow.Author.Count.{below-none, below-more}
 use borrow.Author.Needs.{needs}
 use borrow.Author.Tests.{not-true, not-false}
 use denote.Ref.{now}
 use Rattle.rows.specs.RowTests.{entryRowOk, entryRowsOk}
 use Rattle.rows.proofs.Loops.{Passed, all-passed, all-broken}
-use Rattle.rows.proofs.entry_rows_ok.Statement.{statement}
-use Rattle.rows.proofs.entry_rows_ok.Tie as tie
+use Rattle.tablerows.proofs.entry_rows_ok.Statement.{statement}
+use Rattle.tablerows.proofs.entry_rows_ok.Tie as tie
 
 abbrev Inv-loop : tie.InvT-loop
 Inv-loop rows m n i₀ i = Passed (entryRowOk rows n) i

@@ -19,10 +19,10 @@ use Rattle.layout.specs.Rows.{at, nodeOf, bookOf}
 use Rattle.layout.specs.Counts.{fitsEntry, nodeFits, noted, Suits}
 use Rattle.layout.proofs.Rows.{bookOf-append, bookOf-more}
 use Rattle.layout.proofs.Counts.{Counted, counted-none, counted-more, length-noted}
 use Rattle.rows.specs.RowTests.{zeroFrom, nodeInRange, termRowOk, nodeArityOk, oneArity, termRowsOk}
 use Rattle.rows.proofs.Parts.{length-run}
 use Rattle.rows.proofs.Loops.{Passed, all-passed, all-broken}
-use Rattle.rows.proofs.Arity.{arity-more, arity-broken}
+use Rattle.termrows.proofs.Arity.{arity-more, arity-broken}
 
 -- ---- a row that passed its test
 

@@ -1,4 +1,4 @@
--- `rows::term_rows_ok` meets its contract: the loop's invariant says what holds after `t` rows, and the measure is the rows
+-- `termrows::term_rows_ok` meets its contract: the loop's invariant says what holds after `t` rows, and the measure is the rows
 -- that are left. Assumes nothing.
 use mathlib.Core.Path.{_≡_, sym, _∙_}
 use mathlib.Core.Bool.{true}
@@ -8,10 +8,10 @@ use borrow.Author.Needs.{needs}
 use borrow.Author.Tests.{not-true, not-false}
 use denote.Ref.{now}
 use Rattle.theory.proofs.Lists.Laws.{true-T}
 use Rattle.rows.specs.RowTests.{termRowOk}
-use Rattle.rows.proofs.TermRows.{Tested, tested-none, row-broken, tested-more, count-broken, tested-all}
-use Rattle.rows.proofs.term_rows_ok.Statement.{statement}
-use Rattle.rows.proofs.term_rows_ok.Tie as tie
+use Rattle.termrows.proofs.TermRows.{Tested, tested-none, row-broken, tested-more, count-broken, tested-all}
+use Rattle.termrows.proofs.term_rows_ok.Statement.{statement}
+use Rattle.termrows.proofs.term_rows_ok.Tie as tie
 
 abbrev Inv-loop : tie.InvT-loop
 Inv-loop rows n counts₀ t₀ counts t = Tested rows n counts t

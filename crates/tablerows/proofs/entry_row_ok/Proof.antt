@@ -1,4 +1,4 @@
--- `rows::entry_row_ok` meets its contract: each return follows the tests that lead there. Assumes nothing.
+-- `tablerows::entry_row_ok` meets its contract: each return follows the tests that lead there. Assumes nothing.
 use mathlib.Core.Path.{_≡_, sym, _∙_}
 use mathlib.Core.Bool.{and-true, and-false}
 use Prim.Native.Nat.{_+_, _*_}
@@ -7,10 +7,11 @@ use borrow.Author.Needs.{needs}
 use borrow.Author.Tests.{not-true, not-false}
 use denote.Ref.{now}
 use Rattle.model.specs.Area.{entryRowWords}
 use Rattle.rows.specs.RowTests.{entryRowOk}
-use Rattle.rows.proofs.EntryRow.{entryForm, sides, high-count, hole-row, high-kind, common-row}
-use Rattle.rows.proofs.entry_row_ok.Statement.{statement}
-use Rattle.rows.proofs.entry_row_ok.Tie as tie
+use Rattle.rows.proofs.Zeros.{zeros-below-one}
+use Rattle.tablerows.proofs.EntryRow.{entryForm, sides, high-count, hole-row, high-kind, common-row}
+use Rattle.tablerows.proofs.entry_row_ok.Statement.{statement}
+use Rattle.tablerows.proofs.entry_row_ok.Tie as tie
 
 cast-count : tie.Need-cast-count
 cast-count c =
@@ -33,7 +34,7 @@ form c =
 returns-2 : tie.Need-returns-2
 returns-2 c =
     let known = c .before .before .before .before in
-    c .all-zero .ensures ∙ sym (hole-row _ _ (known .before .before .before .before .pre) (c .before .before .if2 .taken)) ∙ form known
+    c .all-below2 .ensures ∙ zeros-below-one _ ∙ sym (hole-row _ _ (known .before .before .before .before .pre) (c .before .before .if2 .taken)) ∙ form known
 
 -- a kind above 1, and a count above its limit
 returns-3 : tie.Need-returns-3
@@ -51,7 +52,8 @@ returns-5 : tie.Need-returns-5
 returns-5 c =
     let kind = c .before .before .before .before in
     let known = kind .before .before .before .before in
-    c .all-zero2 .ensures
+    c .all-below3 .ensures
+    ∙ zeros-below-one _
     ∙ sym (common-row _ _ (known .before .before .before .before .pre) (kind .if3 .left) (c .before .before .if4 .left))
     ∙ form known
 

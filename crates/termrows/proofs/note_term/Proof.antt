@@ -1,11 +1,11 @@
--- `rows::note_term` meets its contract: a row that passed has its symbol and its count in their ranges. Assumes nothing.
+-- `termrows::note_term` meets its contract: a row that passed has its symbol and its count in their ranges. Assumes nothing.
 use mathlib.Core.Path.{_∙_}
 use native.Mathlib.Omega.{arith}
 use borrow.Author.Needs.{needs}
 use denote.Ref.{now}
-use Rattle.rows.proofs.TermRows.{note-variable, applied-small, note-application}
-use Rattle.rows.proofs.note_term.Statement.{statement}
-use Rattle.rows.proofs.note_term.Tie as tie
+use Rattle.termrows.proofs.TermRows.{note-variable, applied-small, note-application}
+use Rattle.termrows.proofs.note_term.Statement.{statement}
+use Rattle.termrows.proofs.note_term.Tie as tie
 
 returns : tie.Need-returns
 returns c = let s = c .before .before .before in note-variable (now (s .args .rows)) (s .args .t) (s .pre .1) _ (c .if1 .taken)

@@ -1,10 +1,10 @@
--- `rows::binding_ok` meets its contract: each return follows the tests that lead there. Assumes nothing.
+-- `termrows::binding_ok` meets its contract: each return follows the tests that lead there. Assumes nothing.
 use native.Mathlib.Omega.{arith}
 use borrow.Author.Needs.{needs}
 use denote.Ref.{now}
-use Rattle.rows.proofs.Bindings.{unbound, bound-application, bound-variable}
-use Rattle.rows.proofs.binding_ok.Statement.{statement}
-use Rattle.rows.proofs.binding_ok.Tie as tie
+use Rattle.termrows.proofs.Bindings.{unbound, bound-application, bound-variable}
+use Rattle.termrows.proofs.binding_ok.Statement.{statement}
+use Rattle.termrows.proofs.binding_ok.Tie as tie
 
 cast-bound : tie.Need-cast-bound
 cast-bound c = omega (arith, c .shared-slice-known .given (c .before .args .t))

@@ -1,4 +1,4 @@
--- `rows::term_row_ok` meets its contract: each return follows the tests that lead there. Assumes nothing.
+-- `termrows::term_row_ok` meets its contract: each return follows the tests that lead there. Assumes nothing.
 use mathlib.Core.Path.{_≡_, sym, _∙_}
 use mathlib.Core.Bool.{_&&_}
 use Prim.Native.Nat.{_+_, _*_}
@@ -10,11 +10,12 @@ use lib.Dec.{eqb, ltb}
 use Rattle.model.specs.Lists.{all}
 use Rattle.model.specs.Area.{termWords}
 use Rattle.layout.specs.Rows.{at}
 use Rattle.rows.specs.RowTests.{termRowOk}
 use Rattle.rows.proofs.Parts.{part}
-use Rattle.rows.proofs.TermRow.{variable-row, high-symbol, high-count, application-row}
-use Rattle.rows.proofs.term_row_ok.Statement.{statement}
-use Rattle.rows.proofs.term_row_ok.Tie as tie
+use Rattle.rows.proofs.Zeros.{zeros-below-one}
+use Rattle.termrows.proofs.TermRow.{variable-row, high-symbol, high-count, application-row}
+use Rattle.termrows.proofs.term_row_ok.Statement.{statement}
+use Rattle.termrows.proofs.term_row_ok.Tie as tie
 
 cast-tag : tie.Need-cast-tag
 cast-tag c = omega (arith, c .shared-slice-known2 .given (termWords * c .before .before .args .t))
@@ -24,7 +25,7 @@ cast-count c = omega (arith, c .shared-slice-known3 .given (termWords * c .befor
 
 -- a variable
 returns : tie.Need-returns
-returns c = c .all-zero .ensures ∙ sym (variable-row _ _ (c .before .before .before .before .before .pre) (c .before .before .if1 .taken))
+returns c = c .all-below .ensures ∙ zeros-below-one _ ∙ sym (variable-row _ _ (c .before .before .before .before .before .pre) (c .before .before .if1 .taken))
 
 -- a symbol, and a count, above its limit
 returns-2 : tie.Need-returns-2
@@ -45,12 +46,12 @@ application c =
     application-row (now (s .args .rows)) (s .args .t) (s .pre) (c .before .before .before .if1 .left) (omega arith) (c .if3 .left)
 
 returns-4 : tie.Need-returns-4
-returns-4 c = rw (application (c .before .before .before), sym (c .before .all-below .ensures) ∙ not-true _ (c .if4 .taken))
+returns-4 c = rw (application (c .before .before .before), sym (c .before .all-below2 .ensures) ∙ not-true _ (c .if4 .taken))
 
 returns-5 : tie.Need-returns-5
 returns-5 c =
     let below = c .before .before .before in
-    rw (application (below .before .before), sym (below .all-below .ensures) ∙ not-false _ (c .before .before .if4 .left)) (c .all-zero2 .ensures)
+    rw (application (below .before .before), sym (below .all-below2 .ensures) ∙ not-false _ (c .before .before .if4 .left)) (c .all-below3 .ensures ∙ zeros-below-one _)
 
 pub term-row-ok-spec : {M : Type 1} → statement M
 term-row-ok-spec =

@@ -12,8 +12,9 @@ use Rattle.model.specs.Area.{termWords}
 use Rattle.model.specs.BookBytes.{bookBytes}
 use Rattle.theory.proofs.Soundness.Facts.{Formed}
 use Rattle.layout.specs.Rows.{bookOf}
-use Rattle.book.specs.Rows.{bookRows, encodable}
-use Rattle.book.proofs.RowsBook.{rows-book, rows-encodable, book-bytes}
+use Rattle.decoding.specs.Rows.{bookRows}
+use Rattle.encoding.specs.Encoding.{encodable}
+use Rattle.encoding.proofs.RowsBook.{rows-book, rows-encodable, book-bytes}
 
 -- The rows hold a book of so many terms that obeys the rules, with zeros behind it.
 pub record BookHeld (rows : List ℕ) (terms : ℕ) (b : Book) (β : Bindings) : Type 0 where

@@ -14,7 +14,7 @@ use Rattle.theory.proofs.Book.Round.{parsed-formed}
 use Rattle.layout.specs.Rows.{bookOf}
 use Rattle.runs.specs.Emits.{Writes}
 use Rattle.runs.proofs.Emitted.{writes}
-use Rattle.book.specs.Rows.{bookRows, refusalOf, decodedBook}
+use Rattle.decoding.specs.Rows.{bookRows, refusalOf, decodedBook}
 use Rattle.fit.proofs.OpenCases.{decoded, copy-refused, copy-parsed}
 use Rattle.fit.proofs.BookHeld.{BookHeld, held-book}
 

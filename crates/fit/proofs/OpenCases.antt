@@ -15,7 +15,7 @@ use Rattle.model.specs.Area.{wordSize, termWords, toBytes, areaLength, areaByte
 use Rattle.model.specs.Call.{refuse, accept, guard, over, emit, openParsed, callOpen, copyParsed, callCopy}
 use Rattle.theory.proofs.Book.Round.{parsed-formed}
 use Rattle.theory.proofs.Book.Opening.{Positive, book-positive}
-use Rattle.book.specs.Rows.{bookRows, refusalOf, decodedBook}
+use Rattle.decoding.specs.Rows.{bookRows, refusalOf, decodedBook}
 use Rattle.store.specs.Opened.{openedWords}
 use Rattle.fit.specs.Offered.{neededLength}
 use Rattle.store.proofs.JustOpened.{opened-words}

@@ -15,7 +15,7 @@ use Rattle.layout.specs.Rows.{Loaded, bookOf, loadedState}
 use Rattle.layout.proofs.Rows.{length-tableOf}
 use Rattle.runs.specs.Emits.{Writes}
 use Rattle.runs.proofs.Emitted.{emit-anywhere}
-use Rattle.book.specs.Rows.{bookRows}
+use Rattle.decoding.specs.Rows.{bookRows}
 use Rattle.state.specs.Loading.{headerOf}
 use Rattle.state.specs.Ready.{Ready}
 use Rattle.reading.proofs.Tested.{table-known}

@@ -8,7 +8,7 @@ ghost use Rattle.model.specs.Limits.{office};
 ghost use Rattle.model.specs.Call.{emit, callOpen, callAdd, callBind, callCopy, callEntry, callReport, callWrite};
 ghost use Rattle.model.specs.BookBytes.{bookBytes};
 ghost use Rattle.layout.specs.Rows.{bookOf};
-ghost use Rattle.book.specs.Rows.{encodable};
+ghost use Rattle.encoding.specs.Encoding.{encodable};
 ghost use lib.Dec.{T};
 ghost use Rattle.fit.specs.Offered.{neededLength};
 
@@ -26,7 +26,7 @@ pub extern "C" fn fit_area_length(capacity: u32) -> usize
     if layout::OFFICE_CAPACITY < capacity as usize {
         return 0;
     }
-    area::needed_length(layout::OFFICE, capacity as usize)
+    layout::offsets::needed_length(layout::OFFICE, capacity as usize)
 }
 
 // Opens a book in an area: 4 for the capacity, 7 for an area that is too short, then the book's refusals. Where it is
@@ -44,7 +44,7 @@ pub extern "C" fn fit_open(capacity: u32, book: &[u8], area: &mut [u8]) -> u32
         return 7;
     }
     let mut rows = [0u32; layout::TERM_WORDS * layout::OFFICE_TERMS];
-    let decoded = book::decode(book, layout::OFFICE, &mut rows);
+    let decoded = decoding::decode(book, layout::OFFICE, &mut rows);
     let refusal = decoded.refusal;
     if refusal != 0 {
         return refusal;
@@ -105,7 +105,7 @@ pub extern "C" fn fit_copy_book(book: &[u8], out: &mut [u8], written: &mut u32) 
     ensures output { λ r. ⌜ now (out .exit) ≡ callCopy office (now (book .entry)) (now (out .entry)) .output ⌝ }
 {
     let mut rows = [0u32; layout::TERM_WORDS * layout::OFFICE_TERMS];
-    let decoded = book::decode(book, layout::OFFICE, &mut rows);
+    let decoded = decoding::decode(book, layout::OFFICE, &mut rows);
     let refusal = decoded.refusal;
     if refusal != 0 {
         return refuse(refusal, written);
@@ -121,10 +121,10 @@ fn write_book(rows: &[u32], terms: usize, out: &mut [u8], written: &mut u32) -> 
     ensures written { λ r. ⌜ now (written .exit) ∷ [] ≡ emit (bookBytes (bookOf (now (rows .entry)) terms)) [] (now (out .entry)) .numbers ⌝ }
     ensures output { λ r. ⌜ now (out .exit) ≡ emit (bookBytes (bookOf (now (rows .entry)) terms)) [] (now (out .entry)) .output ⌝ }
 {
-    if out.len() < book::encoded_length(rows, terms) {
+    if out.len() < encoding::encoded_length(rows, terms) {
         return refuse(13, written);
     }
-    let count = book::encode(rows, terms, out);
+    let count = encoding::encode(rows, terms, out);
     *written = count as u32;
     0
 }
@@ -148,8 +148,8 @@ pub extern "C" fn fit_entry(area: &[u8], i: u32, fields: &mut [u32; layout::ENTR
     if h.entries <= i {
         return 8;
     }
-    let entry = area::entry_at(&entries, i as usize);
-    *fields = area::row_of(entry);
+    let entry = entry::entry_at(&entries, i as usize);
+    *fields = entry::row_of(entry);
     0
 }
 

@@ -1,6 +1,8 @@
 // The numbers of an area's layout and the limits, each once (docs/LAYOUT.md).
 // Functions below `office` take the limits as parameters; only `office` and `fit` name the office's.
 
+pub mod offsets;
+
 ghost use mathlib.Core.Path.{_≡_};
 ghost use Prim.Native.Nat.{suc, _≤_};
 ghost use lib.ListN.{getD, set};

@@ -1,8 +1,3 @@
 pub mod Loops
 pub mod Parts
 pub mod Zeros
-pub mod TermRow
-pub mod EntryRow
-pub mod Bindings
-pub mod Arity
-pub mod TermRows

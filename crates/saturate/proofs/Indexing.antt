@@ -13,8 +13,8 @@ use Rattle.model.specs.Area.{entryRowWords}
 use Rattle.layout.specs.Rows.{at}
 use Rattle.pairs.specs.Index.{Indexed, noHeads, Pushed}
 use Rattle.pairs.proofs.Growth.{indexed-none}
-use Rattle.area.specs.Row.{rowOf}
-use Rattle.area.specs.declared.Entry.{Entry as Row}
+use Rattle.entry.specs.Row.{rowOf}
+use Rattle.entry.specs.declared.Entry.{Entry as Row}
 use Rattle.entries.proofs.Names.{SideNames}
 use Rattle.table.specs.Stands.{Whatever}
 use Rattle.table.proofs.Held.{held-row}

@@ -12,8 +12,8 @@ use Rattle.model.specs.Area.{entryRowWords, entryWords, kindWords}
 use Rattle.theory.proofs.Table.Place.{length-settle, entry-settle, entryOf-le}
 use Rattle.layout.specs.Rows.{at}
 use Rattle.pairs.specs.Pairs.{placeOf}
-use Rattle.area.specs.Row.{rowOf}
-use Rattle.area.specs.declared.Entry.{Entry as Row}
+use Rattle.entry.specs.Row.{rowOf}
+use Rattle.entry.specs.declared.Entry.{Entry as Row}
 use Rattle.entries.proofs.Names.{entryOf-place}
 use Rattle.table.specs.Stands.{HoldsTable, Whatever}
 use Rattle.table.proofs.Held.{held-row, held-set}

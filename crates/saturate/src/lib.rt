@@ -29,7 +29,7 @@ pub fn index(
     pairs::clear(heads);
     let mut i = 0;
     while i < m {
-        let e = area::entry_at(entries, i);
+        let e = entry::entry_at(entries, i);
         let left = names[e.left as usize];
         let right = names[e.right as usize];
         pairs::push(lefts, rights, heads, next, i, left, right);
@@ -103,9 +103,9 @@ pub fn settle(
     let mut i = 0;
     while i < m {
         let found = pairs::find(lefts, rights, heads, next, m, lefts[i], rights[i]);
-        let mut e = area::entry_at(entries, i);
+        let mut e = entry::entry_at(entries, i);
         e.same_as = found as u32;
-        area::put_entry(entries, i, e);
+        entry::put_entry(entries, i, e);
         i += 1;
     }
 }

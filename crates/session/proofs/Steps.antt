@@ -26,7 +26,7 @@ use Rattle.theory.proofs.Report.Small.{report-small}
 use Rattle.theory.proofs.Runs.States.{refusalOf, Numbered, refusal-zero, answer-numbered, next-capacity}
 use Rattle.theory.proofs.Runs.Simulation.{Lives, stepped-refusal, call-lives, follows}
 use Rattle.theory.proofs.Theorems.{office-modest, lengths, demand-1}
-use Rattle.book.proofs.Parsing.{numberOf as readOf, number-read}
+use Rattle.reader.proofs.Below.{numberOf as readOf, number-read}
 use Rattle.text.specs.Text.{numbersIn}
 use Rattle.text.proofs.Numbers.{numbers-in}
 use Rattle.session.specs.declared.Stepped.{Stepped}

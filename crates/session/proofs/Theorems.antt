@@ -25,7 +25,7 @@ use Rattle.theory.proofs.Soundness.Facts.{SoundFacts}
 use Rattle.theory.proofs.Area.Bytes.{over-carries}
 use Rattle.theory.proofs.Book.Round.{opened-sound}
 use Rattle.theory.proofs.Book.Opening.{book-positive}
-use Rattle.book.proofs.Parsing.{numberOf as readOf, number-read}
+use Rattle.reader.proofs.Below.{numberOf as readOf, number-read}
 use Rattle.session.specs.Steps.{Start, notBegun, begun, openBook, start, openingLine}
 use Rattle.session.specs.Whole.{afterOpening, allSteps, sessionOnBytes, SessionOnBytes}
 use Rattle.session.proofs.Progress.{steps-enough}

@@ -40,7 +40,7 @@ pub fn header_ok(area: &[u8], lim: Limits) -> bool
     if lim.lines < h.lines as usize {
         return false;
     }
-    area::needed_length(lim, capacity) <= area.len()
+    layout::offsets::needed_length(lim, capacity) <= area.len()
 }
 
 // Loads the rows of an area whose header is in order.
@@ -57,9 +57,9 @@ pub fn load(
     ensures { λ _. ⌜ Words (loaded (limitsOf lim) (now (area .entry))) (now (rows .exit)) (now (bindings .exit)) (now (lines .exit)) (now (entries .exit)) ⌝ }
 {
     words::load(area, layout::HEADER_WORDS, rows);
-    words::load(area, area::bindings_at(lim), bindings);
-    words::load(area, area::lines_at(lim), lines);
-    words::load(area, area::entries_at(lim), entries);
+    words::load(area, layout::offsets::bindings_at(lim), bindings);
+    words::load(area, layout::offsets::lines_at(lim), lines);
+    words::load(area, layout::offsets::entries_at(lim), entries);
 }
 
 // Whether the loaded rows pass the tests that look at words alone.
@@ -68,17 +68,17 @@ pub fn rows_ok(h: Header, rows: &[u32], bindings: &[u32], lines: &[u32], entries
     ensures { λ r. ⌜ r ≡ rowsOk (held h (now (rows .entry)) (now (bindings .entry)) (now (lines .entry)) (now (entries .entry))) ⌝ }
 {
     let n = h.terms as usize;
-    if !rows::term_rows_ok(rows, n) {
+    if !termrows::term_rows_ok(rows, n) {
         return false;
     }
-    if !rows::bindings_ok(rows, bindings, n) {
+    if !termrows::bindings_ok(rows, bindings, n) {
         return false;
     }
     let m = h.entries as usize;
-    if !rows::lines_ok(lines, h.lines as usize, m) {
+    if !tablerows::lines_ok(lines, h.lines as usize, m) {
         return false;
     }
-    rows::entry_rows_ok(entries, m, n)
+    tablerows::entry_rows_ok(entries, m, n)
 }
 
 // Whether no value contains itself; then lists the `n` terms, and finds what each stands for and its name. `roots` is scratch

@@ -29,9 +29,9 @@ pub fn store(
 {
     area::store_header(area, header);
     words::store(area, layout::HEADER_WORDS, rows);
-    words::store(area, area::bindings_at(lim), bindings);
-    words::store(area, area::lines_at(lim), lines);
-    words::store(area, area::entries_at(lim), entries);
+    words::store(area, layout::offsets::bindings_at(lim), bindings);
+    words::store(area, layout::offsets::lines_at(lim), lines);
+    words::store(area, layout::offsets::entries_at(lim), entries);
 }
 
 // Writes an area just opened: the header, the term rows, and zeros up to the needed length.
@@ -54,5 +54,9 @@ pub fn opened(
     };
     area::store_header(area, header);
     words::store(area, layout::HEADER_WORDS, rows);
-    words::clear(area, layout::WORD_BYTES * area::bindings_at(lim), needed);
+    words::clear(
+        area,
+        layout::WORD_BYTES * layout::offsets::bindings_at(lim),
+        needed,
+    );
 }

@@ -16,8 +16,8 @@ use Rattle.theory.proofs.Table.Place.{Placed, there, appended, place-cases, pla
 use Rattle.layout.specs.Rows.{at}
 use Rattle.pairs.specs.Pairs.{placeOf}
 use Rattle.pairs.specs.Index.{Pushed}
-use Rattle.area.specs.Row.{rowOf}
-use Rattle.area.specs.declared.Entry.{Entry}
+use Rattle.entry.specs.Row.{rowOf}
+use Rattle.entry.specs.declared.Entry.{Entry}
 use Rattle.entries.proofs.Names.{SideNames, entryOf-place}
 use Rattle.table.specs.Stands.{HoldsTable, Stands, Reaches}
 use Rattle.table.specs.Steps.{ToPlace, IsPlaced}

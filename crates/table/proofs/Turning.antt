@@ -17,8 +17,8 @@ use Rattle.theory.proofs.Area.Rows.{kindArguments, width-entry}
 use Rattle.theory.proofs.Table.Place.{grown, turn-length, turn-grown, placeAll-longer}
 use Rattle.layout.specs.Rows.{at, nodeOf}
 use Rattle.layout.proofs.Rows.{node-app}
-use Rattle.area.specs.Row.{rowOf}
-use Rattle.area.specs.declared.Entry.{Entry as Row}
+use Rattle.entry.specs.Row.{rowOf}
+use Rattle.entry.specs.declared.Entry.{Entry as Row}
 use Rattle.entries.specs.Known.{Held}
 use Rattle.entries.proofs.Rows.{formed, term-row, row-end}
 use Rattle.entries.proofs.EntryKind.{left-applied, right-applied, arguments-known}

@@ -13,8 +13,8 @@ use Rattle.model.specs.Area.{termWords, entryRowWords, entryWords, kindWords}
 use Rattle.theory.proofs.Table.Place.{visit-cases}
 use Rattle.theory.proofs.Table.WalkLength.{not-both, visit-idle}
 use Rattle.layout.specs.Rows.{at, nodeOf}
-use Rattle.area.specs.Row.{rowOf}
-use Rattle.area.specs.declared.Entry.{Entry as Row}
+use Rattle.entry.specs.Row.{rowOf}
+use Rattle.entry.specs.declared.Entry.{Entry as Row}
 use Rattle.entries.proofs.Rows.{row-end, root-lt, root-row}
 use Rattle.table.specs.Stands.{Reaches}
 use Rattle.table.specs.Steps.{ToVisit, IsVisited}

@@ -12,8 +12,8 @@ use Rattle.model.specs.Term.{Book, Bindings, alike, root}
 use Rattle.model.specs.Table.{Table, isHole, entry, entryOf, place, placeAll, visit}
 use Rattle.model.specs.Area.{termWords, entryRowWords}
 use Rattle.layout.specs.Rows.{at}
-use Rattle.area.specs.Row.{rowOf}
-use Rattle.area.specs.declared.Entry.{Entry}
+use Rattle.entry.specs.Row.{rowOf}
+use Rattle.entry.specs.declared.Entry.{Entry}
 use Rattle.entries.specs.Known.{Terms}
 use Rattle.table.specs.Stands.{KnownNames, KnownTerms, Stands, Reaches}
 use Rattle.table.specs.declared.Placed.{Placed}

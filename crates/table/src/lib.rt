@@ -4,7 +4,7 @@
 
 ghost use Rattle.table.specs.Stands.{GivenTable, Whatever};
 ghost use Rattle.table.specs.Steps.{ToPlace, IsPlaced, ToPlaceAll, ArePlaced, ToTurn, IsTurned, ToVisit, IsVisited};
-use area::Entry;
+use entry::Entry;
 use layout::MAX_ARITY;
 use layout::TERM_WORDS;
 
@@ -72,7 +72,7 @@ pub fn place(
         arguments: [0; MAX_ARITY],
         same_as: m as u32,
     };
-    area::put_entry(entries, m, hole);
+    entry::put_entry(entries, m, hole);
     pairs::push(lefts, rights, heads, next, m, left, right);
     Placed {
         entry: m as u32,
@@ -156,7 +156,7 @@ fn turn(rows: &[u32], entries: &mut [u32], i: usize, l: usize, e: Entry, args: A
         arguments: numbers,
         same_as: e.same_as,
     };
-    area::put_entry(entries, i, common);
+    entry::put_entry(entries, i, common);
     Visited {
         turned: true,
         count,
@@ -182,7 +182,7 @@ pub fn visit(
     ensures { λ v. ⌜ Whatever (ToVisit (now (rows .entry)) (now (roots .entry)) (now (names .entry)) (now (entries .entry)) (now (lefts .entry)) (now (rights .entry)) (now (heads .entry)) (now (next .entry)) capacity m i)
         (IsVisited (now (entries .exit)) (now (lefts .exit)) (now (rights .exit)) (now (heads .exit)) (now (next .exit)) capacity i v) ⌝ }
 {
-    let e = area::entry_at(entries, i);
+    let e = entry::entry_at(entries, i);
     if e.kind != 0 {
         return Visited {
             turned: false,

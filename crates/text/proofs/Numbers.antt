@@ -13,7 +13,7 @@ use Rattle.leb128.proofs.Laws.{reads-what-is-written, within-the-limit, rest-is
 use Rattle.model.specs.Lists.{concatMap}
 use Rattle.model.specs.Report.{numberBytes}
 use Rattle.model.specs.BookBytes.{Parsed, parsed, unparsed, fromRead, parseNumber}
-use Rattle.book.proofs.Parsing.{numberOf, number-answered}
+use Rattle.reader.proofs.Below.{numberOf, number-answered}
 use Rattle.runs.proofs.Over.{Laid, laid-none, laid-more, laid-length}
 use Rattle.text.specs.Text.{maxDigits, numberMost, decimal, spaced, following, consNumber, readNumbers, numbersIn}
 use Rattle.text.proofs.Digits.{small-short}

@@ -10,7 +10,7 @@ use Rattle.model.specs.Lists.{concatMap}
 use Rattle.model.specs.Area.{wordSize, termWords, toBytes, areaLength}
 use Rattle.model.specs.Call.{refuse, accept, over}
 use Rattle.model.specs.BookBytes.{parseBook}
-use Rattle.book.specs.Rows.{bookRows, decodedBook}
+use Rattle.decoding.specs.Rows.{bookRows, decodedBook}
 use Rattle.store.specs.Opened.{openedWords}
 use Rattle.fit.proofs.OpenCases.{inRange, length-of, none-out-of-range, some-in-range, open-four, open-seven, open-refused, open-accepted}
 use Rattle.fit.proofs.fit_open.Statement.{statement}

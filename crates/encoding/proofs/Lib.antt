@@ -1,0 +1,3 @@
+pub mod Terms
+pub mod Encoding
+pub mod RowsBook

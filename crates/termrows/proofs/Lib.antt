@@ -1,0 +1,4 @@
+pub mod Arity
+pub mod Bindings
+pub mod TermRow
+pub mod TermRows

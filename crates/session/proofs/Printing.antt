@@ -1,84 +1,16 @@
--- A line of text that grows at the front of a buffer: its first number, the numbers behind it, its end. Assumes nothing.
-use mathlib.Core.Path.{_≡_, refl, ap, sym, _∙_}
-use mathlib.Core.List.{List, [], _∷_, _++_, append-assoc, append-nil}
-use Prim.Native.Nat.{ℕ, zero, suc, _+_, _*_, _≤_, _<_, zero-le}
+-- The lines of an opening and of a step as text, by their answers. Assumes nothing.
+use mathlib.Core.Path.{_≡_, refl, ap, _∙_}
+use mathlib.Core.List.{List, [], _∷_, _++_, append-nil}
+use Prim.Native.Nat.{ℕ, _≤_}
 use native.Mathlib.Omega.{arith}
-use lib.ListN.{length, take, drop, length-append}
+use lib.ListN.{length, drop, length-append}
 use lib.Seq.{take-all}
-use Rattle.leb128.specs.Number.{maxNumber}
 use Rattle.model.specs.Lists.{concatMap}
-use Rattle.model.specs.BookBytes.{Parsed, parsed, unparsed, parseNumber}
-use Rattle.theory.proofs.Lists.Laws.{concatMap-append}
-use Rattle.runs.proofs.Over.{Laid, laid-more, laid-length, laid-front}
+use Rattle.text.specs.Text.{lineText, linesText, numbersIn}
 use Rattle.session.specs.declared.Begun.{Begun}
 use Rattle.session.specs.declared.Stepped.{Stepped}
 use Rattle.session.specs.declared.Stepped.the-variants.{Ended, Reported}
 use Rattle.session.specs.Steps.{openingLine, lines}
-use Rattle.text.specs.Text.{lineFeed, maxDigits, numberMost, decimal, spaced, following, lineText, linesText, numbersIn}
-use Rattle.text.proofs.Digits.{Word, decimal-short}
-use Rattle.text.proofs.Numbers.{following-short}
-
--- one number behind others
-following-more : (ns : List ℕ) (n : ℕ) → following (ns ++ n ∷ []) ≡ following ns ++ spaced n
-unfolding following concatMap
-following-more ns n = concatMap-append spaced ns (n ∷ []) ∙ rw append-nil
-
-spaced-short : (n : ℕ) → Word n → length (spaced n) ≤ 1 + maxDigits
-unfolding spaced
-spaced-short n w = omega (arith, decimal-short n w)
-
--- The line of `first` and `ns` stands at the front of `text`, without its end, in at most `most` bytes; `at` is the place behind it.
-pub record Line (text : List ℕ) (first : ℕ) (ns : List ℕ) (most : ℕ) (now : List ℕ) (at : ℕ) : Type 0 where
-  pub laid : Laid text 0 (decimal first ++ following ns) now at
-  pub short : length (decimal first ++ following ns) ≤ most
-  pub room : most < length text
-
-module _ (text : List ℕ) where
-  -- its first number
-  pub line-first : (n : ℕ) → Word n → maxDigits < length text → {now : List ℕ} {at : ℕ} → Laid text 0 (decimal n) now at
-      → Line text n [] maxDigits now at
-  unfolding following concatMap
-  line-first n w room l = record { laid = rw append-nil l; short = rw append-nil (decimal-short n w); room = room }
-
-  module _ {first : ℕ} {ns : List ℕ} {most : ℕ} {now : List ℕ} {at : ℕ} (s : Line text first ns most now at) where
-    fits : 0 + length (decimal first ++ following ns) ≤ length text
-    fits = omega (arith, s .short, s .room)
-
-    pub line-length : length now ≡ length text
-    line-length = laid-length text 0 (decimal first ++ following ns) now at fits (s .laid)
-
-    -- the place behind it
-    pub line-at : at ≤ most
-    line-at = omega (arith, s .laid .0, s .short)
-
-    -- numbers behind it
-    line-behind : (ms : List ℕ) (k : ℕ) → length (following ms) ≤ k → most + k < length text → {now′ : List ℕ} {at′ : ℕ}
-        → following (ns ++ ms) ≡ following ns ++ following ms → Laid now at (following ms) now′ at′
-        → Line text first (ns ++ ms) (most + k) now′ at′
-    line-behind ms k h g {now′} {at′} e l =
-        record {
-          laid = rw (e, ← append-assoc) (laid-more text 0 (decimal first ++ following ns) now at fits (s .laid) (following ms) now′ at′ l);
-          short = rw (e, ← append-assoc, length-append (decimal first ++ following ns)) (omega (arith, s .short));
-          room = g;
-        }
-
-    pub line-numbers : (ms : List ℕ) (k : ℕ) → length (following ms) ≤ k → most + k < length text → {now′ : List ℕ} {at′ : ℕ}
-        → Laid now at (following ms) now′ at′ → Line text first (ns ++ ms) (most + k) now′ at′
-    unfolding following
-    line-numbers ms k h g l = line-behind ms k h g (concatMap-append spaced ns ms) l
-
-    pub line-more : (n : ℕ) → Word n → most + (1 + maxDigits) < length text → {now′ : List ℕ} {at′ : ℕ} → Laid now at (spaced n) now′ at′
-        → Line text first (ns ++ n ∷ []) (most + (1 + maxDigits)) now′ at′
-    unfolding following concatMap
-    line-more n w g l = line-numbers (n ∷ []) (1 + maxDigits) (rw append-nil (spaced-short n w)) g (rw append-nil l)
-
-    -- its end
-    pub line-ended : {end : List ℕ} {r : ℕ} → Laid now at (lineFeed ∷ []) end r
-        → (r ≡ length (lineText (first ∷ ns))) × (end ≡ lineText (first ∷ ns) ++ drop r text)
-    unfolding lineText
-    line-ended {end} {r} l =
-        rw (← append-assoc (decimal first) (following ns) (lineFeed ∷ []))
-        (laid-front text _ end r (laid-more text 0 (decimal first ++ following ns) now at fits (s .laid) (lineFeed ∷ []) end r l))
 
 -- The bytes stand at the front of `text`, which gives `end`, and r is their length.
 abbrev Front : List ℕ → List ℕ → ℕ → List ℕ → Type 0

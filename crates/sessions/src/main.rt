@@ -6,7 +6,7 @@ ghost use mathlib.Core.Path.{_≡_};
 ghost use Prim.Native.Nat.{_<_, _≤_};
 ghost use lib.ListN.{length};
 ghost use Rattle.theory.specs.Lengths.{longestSessionReport};
-ghost use Rattle.session.specs.Printing.{lineMost};
+ghost use Rattle.text.specs.Text.{lineMost};
 use libc::STDIN_FILENO;
 use libc::STDOUT_FILENO;
 use session::Begun;
@@ -20,12 +20,12 @@ const AREA: usize = layout::WORD_BYTES
 
 const REPORT: usize = 24068;
 
-const LINE: usize = 34 + 6 * REPORT;
+const LINE: usize = 33 + 6 * REPORT;
 
 // Takes the step at position `at`, prints its line, and gives the position at which the session goes on: the end of the input
 // where it is over, or where its line cannot be printed.
 fn turn(input: &[u8], at: usize, area: &mut [u8], out: &mut [u8], text: &mut [u8]) -> usize
-    requires { ⌜ (at < length (now input)) × (lineMost (length (now out)) ≤ length (now text)) ⌝ }
+    requires { ⌜ (at < length (now input)) × (lineMost 2 (length (now out)) ≤ length (now text)) ⌝ }
     ensures { λ r. ⌜ (at < r) × (r ≤ length (now (input .entry))) ⌝ }
 {
     let answer = session::step(input, at, area, out);
@@ -38,7 +38,7 @@ fn turn(input: &[u8], at: usize, area: &mut [u8], out: &mut [u8], text: &mut [u8
 
 // All steps from position `first` on.
 fn steps(input: &[u8], first: usize, area: &mut [u8], out: &mut [u8], text: &mut [u8])
-    requires { ⌜ (length (now out) ≡ longestSessionReport) × (length (now text) ≡ lineMost longestSessionReport) ⌝ }
+    requires { ⌜ (length (now out) ≡ longestSessionReport) × (length (now text) ≡ lineMost 2 longestSessionReport) ⌝ }
 {
     let mut at = first;
     while at < input.len() {

@@ -9,37 +9,49 @@ use Rattle.session.proofs.print.opening.Tie as tie
 enum-known-answer : tie.Need-enum-known-answer
 enum-known-answer c = search needs
 
-number-line-requires : tie.Need-number-line-requires
-number-line-requires c κs = search needs
+slice-aggregate-put-line : tie.Need-slice-aggregate-put-line
+slice-aggregate-put-line c = search needs
+
+put-line-requires : tie.Need-put-line-requires
+put-line-requires c κs = search needs
 
 enum-known-answer-2 : tie.Need-enum-known-answer-2
 enum-known-answer-2 c = search needs
 
-number-line-requires-2 : tie.Need-number-line-requires-2
-number-line-requires-2 c κs = search needs
+slice-aggregate-put-line-2 : tie.Need-slice-aggregate-put-line-2
+slice-aggregate-put-line-2 c = search needs
+
+put-line-requires-2 : tie.Need-put-line-requires-2
+put-line-requires-2 c κs = search needs
 
 same-length : tie.Need-same-length
 same-length c = search needs
 
 returns : tie.Need-returns
 unfolding openingLine
-returns c = opening-prints _ _ _ (c .before .before .before .before .before .answer .given .1) refl (c .before .before .number-line .ensures)
+returns c =
+    let put = c .before .before in
+    opening-prints _ _ _ (put .before .before .before .before .answer .given .1) refl (put .put-line .ensures)
 
 same-length-2 : tie.Need-same-length-2
 same-length-2 c = search needs
 
 returns-2 : tie.Need-returns-2
 unfolding openingLine
-returns-2 c = opening-prints _ _ _ (c .before .before .before .before .before .answer2 .given .1) refl (c .before .before .number-line2 .ensures)
+returns-2 c =
+    let put = c .before .before in
+    opening-prints _ _ _ (put .before .before .before .before .answer2 .given .1) refl (put .put-line2 .ensures)
 
 pub opening-spec : {M : Type 1} → statement M
 opening-spec =
     tie.close
     (tie.spec
     enum-known-answer
-    number-line-requires
+    slice-aggregate-put-line
+    put-line-requires
     enum-known-answer-2
-    number-line-requires-2
+    slice-aggregate-put-line-2
+    put-line-requires-2
     same-length
     returns
     same-length-2

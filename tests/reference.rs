@@ -18,5 +18,5 @@ pub use area::{Limits, OFFICE};
 pub use book::{decode, encode, push_number, Term};
 pub use calls::{perform, Answer, Call};
 pub use random::{book_over, random_book, times, Random};
-pub use session::{session, CAPACITY, LONGEST};
+pub use session::{session, End, Session, CAPACITY, LONGEST};
 pub use soundness::{faults, Fault, Faults};

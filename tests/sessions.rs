@@ -1,12 +1,13 @@
 //! Runs the session program on random sessions, valid and damaged, and compares every line that it prints with the second
 //! implementation. Every session is made from its own seed, which is printed where the two differ. The run prints how often
-//! each refusal was printed and each way to end occurred, and fails where one did not. With a file name it writes the session that
-//! takes longest there, and runs nothing.
+//! each kind of session, refusal and end occurred, and fails where one did not. With a file name it writes the session that takes
+//! longest there, and runs nothing.
 
 mod bases;
 mod reference;
 
-use reference::{encode, push_number, random_book, session, Call, Random, Term, LONGEST};
+use reference::{encode, push_number, random_book, session, Call, End, Random, Session, Term, LONGEST};
+use std::collections::BTreeMap;
 use std::io::{Read, Write};
 use std::process::{Command, Stdio};
 use std::thread;
@@ -15,19 +16,18 @@ use std::time::Duration;
 const SESSIONS: u64 = 20_000;
 const FIRST_SEED: u64 = 0x5E55_0000_0000_0000;
 /// One session in so many is a long one.
-const LONG_EVERY: u64 = 250;
+const LONG_EVERY: u64 = 1_600;
+/// The pieces that the program gets its input in; the first is all at once.
+const PIECES: [usize; 4] = [usize::MAX, 1_000, 7, 2];
 const PROGRAM: &str = "target/bin/sessions";
-
-/// The program with its standard input and output in our hands.
-fn program() -> Command {
-    let mut command = Command::new(PROGRAM);
-    command.stdin(Stdio::piped()).stdout(Stdio::piped());
-    command
-}
 
 /// What the program prints for this input, which it gets in pieces of this size.
 fn printed(input: &[u8], piece: usize, pause: Duration) -> Result<String, String> {
-    let mut child = program().spawn().map_err(|error| format!("{PROGRAM}: {error}"))?;
+    let mut child = Command::new(PROGRAM)
+        .stdin(Stdio::piped())
+        .stdout(Stdio::piped())
+        .spawn()
+        .map_err(|error| format!("{PROGRAM}: {error}"))?;
     let mut stdin = child.stdin.take().expect("a pipe");
     let input = input.to_vec();
     let writer = thread::spawn(move || {
@@ -160,39 +160,28 @@ fn filled(random: &mut Random, terms: &[Term], length: usize, reports: u64) -> V
     of(&book, &steps)
 }
 
-/// A session as long as one may be, or a byte longer; or one of more lines than there may be; or one that needs more entries than
-/// the capacity.
+/// Lines of any two of so many terms, and a report.
+fn lines(random: &mut Random, count: u64, terms: usize) -> Vec<u8> {
+    let mut steps = Vec::new();
+    for _ in 0..count {
+        push_step(&mut steps, Call::Add { l: random.place(terms) as u32, r: random.place(terms) as u32 });
+    }
+    steps.push(3);
+    steps
+}
+
+/// A session as long as one may be, a byte longer, or still longer; one of more lines than there may be; one that needs more entries
+/// than the capacity; or one of as many terms as there may be.
 fn long(random: &mut Random, kind: u64) -> Vec<u8> {
-    match kind % 5 {
-        0 => {
+    match kind % 6 {
+        kind @ 0..=2 => {
             let terms = bases::narrow_book(random, 40);
-            filled(random, &terms, LONGEST, 40)
-        }
-        1 => {
-            let terms = bases::narrow_book(random, 40);
-            let beyond = 1 + random.place(2) * random.place(9_000);
+            let beyond = [0, 1, 2 + random.place(9_000)][kind as usize];
             filled(random, &terms, LONGEST + beyond, 40)
         }
-        2 => {
-            // 257 lines and more
-            let terms = bases::narrow_book(random, 30);
-            let mut steps = Vec::new();
-            for _ in 0..260 {
-                push_step(&mut steps, Call::Add { l: random.place(30) as u32, r: random.place(30) as u32 });
-            }
-            steps.push(3);
-            of(&encode(&terms), &steps)
-        }
-        3 => {
-            // lines over many variables: the table fills up
-            let terms = wide_book(random, 400);
-            let mut steps = Vec::new();
-            for _ in 0..256 {
-                push_step(&mut steps, Call::Add { l: random.place(400) as u32, r: random.place(400) as u32 });
-            }
-            steps.push(3);
-            of(&encode(&terms), &steps)
-        }
+        3 => of(&encode(&bases::narrow_book(random, 30)), &lines(random, 260, 30)),
+        // lines over many variables: the table fills up
+        4 => of(&encode(&wide_book(random, 400)), &lines(random, 256, 400)),
         _ => {
             let terms = wide_book(random, 1_024);
             let length = 20_000 + random.place(10_000);
@@ -213,35 +202,94 @@ fn random_session(seed: u64) -> Vec<u8> {
     input
 }
 
-/// What a run has seen: all lines, reports, and for each refusal the lines that print it alone; at 0 those of accepted openings.
+/// The kinds of sessions, refusals and ends that have to occur.
+fn kinds() -> Vec<String> {
+    let mut kinds: Vec<String> = [
+        "no bytes",
+        "65,536 bytes",
+        "65,537 bytes",
+        "more bytes",
+        "length refused with 1",
+        "length refused with 2",
+        "length past the end",
+        "step number refused with 1",
+        "step number refused with 2",
+        "other number refused with 1",
+        "other number refused with 2",
+        "unknown step",
+        "all steps taken",
+        "a report after every step",
+        "a line after a refused one",
+    ]
+    .map(String::from)
+    .to_vec();
+    kinds.extend((1..=6).map(|refusal| format!("book refused with {refusal}")));
+    kinds.extend((8..=12).map(|refusal| format!("step refused with {refusal}")));
+    kinds
+}
+
+/// What a run has seen, by its kind.
 #[derive(Default)]
 struct Census {
-    refusals: [u64; 14],
-    reports: u64,
-    lines: u64,
+    seen: BTreeMap<String, u64>,
 }
 
 impl Census {
-    fn note(&mut self, printed: &str) {
-        for line in printed.lines() {
-            self.lines += 1;
-            match line.split_once(' ') {
-                None => self.refusals[line.parse::<usize>().expect("a refusal")] += 1,
-                Some((_, numbers)) if numbers.contains(' ') && numbers.split(' ').count() > 2 => self.reports += 1,
-                Some(_) => {}
+    fn note(&mut self, kind: impl Into<String>) {
+        *self.seen.entry(kind.into()).or_default() += 1;
+    }
+
+    fn session(&mut self, input: &[u8], session: &Session) {
+        match input.len() {
+            0 => self.note("no bytes"),
+            LONGEST => self.note("65,536 bytes"),
+            length if length == LONGEST + 1 => self.note("65,537 bytes"),
+            length if length > LONGEST => self.note("more bytes"),
+            _ => {}
+        }
+        match session.end {
+            End::TooLong => {}
+            End::Length(refusal) => self.note(format!("length refused with {refusal}")),
+            End::LengthPastEnd => self.note("length past the end"),
+            End::Book(refusal) => self.note(format!("book refused with {refusal}")),
+            End::StepNumber(refusal) => self.note(format!("step number refused with {refusal}")),
+            End::OtherNumber(refusal) => self.note(format!("other number refused with {refusal}")),
+            End::UnknownStep => self.note("unknown step"),
+            End::Input => self.note("all steps taken"),
+        }
+        let turns = session.steps.chunks(2);
+        if turns.len() > 3 && turns.clone().all(|turn| turn.len() == 2 && turn[0] != 3 && turn[1] == 3) {
+            self.note("a report after every step");
+        }
+        // The line behind the opening's belongs to the first step.
+        let mut refused = false;
+        for (step, line) in session.steps.iter().zip(session.printed.lines().skip(1)) {
+            if refused && *step == 1 && line.starts_with("0 ") {
+                self.note("a line after a refused one");
             }
+            if !line.contains(' ') {
+                self.note(format!("step refused with {line}"));
+            }
+            refused = *step == 1 && !line.contains(' ');
         }
     }
 
-    /// Every refusal but 7 and 13, which do not arise, was printed.
-    fn complete(&self) -> Result<(), String> {
-        for refusal in 0..14 {
-            let arises = refusal != 7 && refusal != 13;
-            if (self.refusals[refusal] > 0) != arises {
-                return Err(format!("refusal {refusal} was printed {} times", self.refusals[refusal]));
-            }
+    fn join(&mut self, other: Census) {
+        for (kind, count) in other.seen {
+            *self.seen.entry(kind).or_default() += count;
         }
-        Ok(())
+    }
+
+    /// Every kind occurred, and no other.
+    fn complete(&self) -> Result<(), String> {
+        let kinds = kinds();
+        if let Some(kind) = kinds.iter().find(|kind| !self.seen.contains_key(*kind)) {
+            return Err(format!("did not occur: {kind}"));
+        }
+        match self.seen.keys().find(|kind| !kinds.contains(kind)) {
+            Some(kind) => Err(format!("occurred: {kind}")),
+            None => Ok(()),
+        }
     }
 }
 
@@ -260,22 +308,55 @@ fn worked() -> Vec<(Vec<u8>, &'static str)> {
     ]
 }
 
-/// Two trees of eight arguments over as many variables as there may be: a table of as many entries as the capacity, each with
-/// numbers as long as they can be, and reports up to the last byte.
-fn slowest() -> Vec<u8> {
-    let mut terms = vec![Term::Variable; 24];
-    while terms.len() < 1_024 {
-        let own = terms.len() as u32;
-        let arguments: Vec<u32> = (0..8).map(|i| own - 1 - (i * 3 + own % 3) % 24.min(own)).collect();
-        terms.push(over(4_095, &arguments));
+/// The bucket of a pair in the library's index of pairs (crates/pairs), where pairs of one bucket are searched one after the other.
+fn bucket(a: u32, b: u32) -> usize {
+    ((u64::from(a) * 1_052_792_407 + u64::from(b) * 2_447_445_413) / 1_048_576 % 4_096) as usize
+}
+
+/// As many terms of eight arguments as there may be, whose values are put into the index in long chains: each has a symbol of its
+/// own, for which its last argument goes into the fullest bucket, and each argument before it is the term that goes into the
+/// fullest bucket that can be had.
+fn colliding_book() -> Vec<Term> {
+    const TERMS: u32 = 1_024;
+    const VARIABLES: u32 = 16;
+    let mut terms = vec![Term::Variable; VARIABLES as usize];
+    let mut classes: Vec<u32> = (0..VARIABLES).collect();
+    let mut filled = vec![0u32; 4_096];
+    let mut placed = std::collections::HashSet::new();
+    let mut used = std::collections::HashSet::new();
+    let mut places = 0;
+    for own in VARIABLES..TERMS {
+        let full = (0..4_096).max_by_key(|&i: &usize| filled[i]).expect("a bucket");
+        let starts = (0..4_096).flat_map(|symbol| (0..own).rev().take(64).map(move |a| (symbol, a)));
+        let hits = |&(symbol, a): &(u32, u32)| !used.contains(&symbol) && bucket(symbol, classes[a as usize]) == full;
+        let symbol = starts.filter(hits).next().map_or(own, |(symbol, _)| symbol);
+        used.insert(symbol);
+        let mut node = symbol;
+        let mut arguments = Vec::new();
+        for _ in 0..8 {
+            let fresh = |&a: &u32| !placed.contains(&(node, classes[a as usize]));
+            let fullest = |&a: &u32| filled[bucket(node, classes[a as usize])];
+            let argument = (0..own).filter(fresh).max_by_key(fullest).expect("a pair");
+            let pair = (node, classes[argument as usize]);
+            placed.insert(pair);
+            filled[bucket(pair.0, pair.1)] += 1;
+            node = 4_096 + places;
+            places += 1;
+            arguments.insert(0, argument);
+        }
+        classes.push(TERMS + node);
+        terms.push(over(symbol, &arguments));
     }
-    let book = encode(&terms);
+    terms
+}
+
+/// The session that takes longest of those tried: a book of values that collide, lines up to their number, and reports up to the
+/// last byte.
+fn slowest() -> Vec<u8> {
+    let mut input = of(&encode(&colliding_book()), &[]);
     let mut steps = Vec::new();
-    let mut input = of(&book, &[]);
-    let mut line = 0;
-    while line < 256 {
+    for line in 0..256 {
         push_step(&mut steps, Call::Add { l: 1_023 - line, r: 1_022 - line });
-        line += 1;
     }
     input.extend(steps);
     input.resize(LONGEST, 3);
@@ -298,20 +379,40 @@ fn compare(name: &str, input: &[u8], expected: &str, piece: usize, pause: u64) -
     }
 }
 
-/// The program ends where nobody takes what it prints: the output closed after a byte, and closed from the start.
+/// The program ends by itself where nobody takes what it prints: the output closed after a byte, and closed from the start.
 fn output_closed() -> bool {
+    let shell = |line: &str| {
+        let mut command = Command::new("sh");
+        command.args(["-c", line]).stdin(Stdio::piped()).stdout(Stdio::piped());
+        command.spawn().expect("a shell")
+    };
     let input = of(&[1, 0], &vec![3; 60_000]);
-    let mut child = program().spawn().expect("the program");
+    // The signal would end it; without, it is told that it cannot write.
+    let mut child = shell(&format!("trap '' PIPE; exec {PROGRAM}"));
     let mut stdin = child.stdin.take().expect("a pipe");
     let writer = thread::spawn(move || drop(stdin.write_all(&input)));
     let mut stdout = child.stdout.take().expect("a pipe");
-    let mut byte = [0];
-    let read = stdout.read_exact(&mut byte).is_ok();
+    let read = stdout.read_exact(&mut [0]).is_ok();
     drop(stdout);
-    let ended = child.wait().is_ok();
+    let ended = child.wait().is_ok_and(|status| status.success());
     writer.join().expect("the writer");
-    let closed = Command::new("sh").args(["-c", &format!("printf '\\001\\000\\003' | {PROGRAM} >&-")]).status();
-    read && ended && closed.is_ok()
+    let closed = shell(&format!("printf '\\001\\000\\003' | {PROGRAM} >&-")).wait().is_ok_and(|status| status.success());
+    read && ended && closed
+}
+
+/// Every so many of the random sessions, from this one on: what they were, and whether each prints what it has to.
+fn random_sessions(first: u64, every: u64) -> (Census, Vec<bool>) {
+    let mut census = Census::default();
+    let mut same = Vec::new();
+    for i in (first..SESSIONS).step_by(every as usize) {
+        let seed = FIRST_SEED + i;
+        let input = random_session(seed);
+        let session = session(&input);
+        census.session(&input, &session);
+        let piece = PIECES[(i / 3 % PIECES.len() as u64) as usize];
+        same.push(compare(&format!("seed {seed:#x}"), &input, &session.printed, piece, 0));
+    }
+    (census, same)
 }
 
 fn main() {
@@ -322,20 +423,22 @@ fn main() {
     let (mut passed, mut failed) = (0, 0);
     let mut test = |holds: bool| if holds { passed += 1 } else { failed += 1 };
     for (i, (input, expected)) in worked().into_iter().enumerate() {
-        test(session(&input) == expected);
+        test(session(&input).printed == expected);
         test(compare(&format!("worked {i}"), &input, expected, usize::MAX, 0));
         test(compare(&format!("worked {i} byte by byte"), &input, expected, 1, 2));
     }
     test(output_closed());
+    let workers = thread::available_parallelism().map_or(1, |count| count.get().min(4)) as u64;
     let mut census = Census::default();
-    for i in 0..SESSIONS {
-        let seed = FIRST_SEED + i;
-        let input = random_session(seed);
-        let expected = session(&input);
-        census.note(&expected);
-        test(compare(&format!("seed {seed:#x}"), &input, &expected, [usize::MAX, 1_000][(i % 2) as usize], 0));
+    let work: Vec<_> = (0..workers).map(|first| thread::spawn(move || random_sessions(first, workers))).collect();
+    for worker in work {
+        let (seen, same) = worker.join().expect("a worker");
+        census.join(seen);
+        same.into_iter().for_each(&mut test);
     }
-    println!("{} lines, {} of them reports; by refusal {:?}", census.lines, census.reports, census.refusals);
+    for (kind, count) in &census.seen {
+        println!("{count:6} {kind}");
+    }
     if let Err(error) = census.complete() {
         println!("{error}");
         test(false);

@@ -1,15 +1,13 @@
 // A session over lent bytes: opening it, and one step of it (specs/Steps.antt; docs/SPEC.md, "Sessions").
 
-pub mod print;
-
 ghost use mathlib.Core.Path.{_≡_};
 ghost use Prim.Native.Nat.{_≤_};
 ghost use lib.ListN.{length};
 ghost use Rattle.leb128.specs.declared.Decoded.the-variants.{Number};
 ghost use Rattle.model.specs.Limits.{office};
 ghost use Rattle.model.specs.Call.{callAdd, callBind, callReport};
-ghost use Rattle.session.specs.Steps.{openBook, start, addedBy, boundBy, reportedBy, byNumber, stepAt, nextOr};
-ghost use Rattle.session.specs.Parts.{pairAt};
+ghost use Rattle.session.specs.Steps.{openBook, start, addedBy, boundBy, reportedBy, stepAt};
+use request::Request;
 
 // The longest session in bytes, and the capacity of its area.
 pub const LONGEST: usize = 65536;
@@ -51,16 +49,6 @@ pub enum Stepped {
     },
 }
 
-// Two numbers and the position after them, or the refusal of the first that is none.
-pub enum Pair {
-    Numbers {
-        first: u32,
-        second: u32,
-        next: usize,
-    },
-    Refused(u32),
-}
-
 // Opens a session: 4 for one that is too long, the refusal of the book's length, and then the book's.
 pub fn open(input: &[u8], area: &mut [u8]) -> Begun
     ensures answer { λ r. ⌜ r ≡ start (now (input .entry)) (now (area .entry)) .answer ⌝ }
@@ -91,28 +79,6 @@ fn open_book(input: &[u8], at: usize, size: usize, area: &mut [u8]) -> Begun
         return Begun::Refused(refusal);
     }
     Begun::At(end)
-}
-
-// The two numbers at position `at`.
-fn two_numbers(input: &[u8], at: usize) -> Pair
-    ensures { λ r. ⌜ r ≡ pairAt (now (input .entry)) at ⌝ }
-{
-    match leb128::read(input, at) {
-        leb128::Decoded::Number { value, next } => match leb128::read(input, next) {
-            leb128::Decoded::Number {
-                value: second,
-                next: end,
-            } => Pair::Numbers {
-                first: value,
-                second,
-                next: end,
-            },
-            leb128::Decoded::Cut => Pair::Refused(1),
-            leb128::Decoded::Invalid => Pair::Refused(2),
-        },
-        leb128::Decoded::Cut => Pair::Refused(1),
-        leb128::Decoded::Invalid => Pair::Refused(2),
-    }
 }
 
 // Adds the line (`l`, `r`).
@@ -159,67 +125,21 @@ fn report(area: &[u8], out: &mut [u8], next: usize) -> Stepped
     Stepped::Reported { length, next }
 }
 
-// The step numbered `n`, whose other numbers begin at position `at`.
-fn by_number(input: &[u8], n: u32, at: usize, area: &mut [u8], out: &mut [u8]) -> Stepped
-    ensures answer { λ s. ⌜ s ≡ byNumber (now (input .entry)) (now (area .entry)) (now (out .entry)) n at .answer ⌝ }
-    ensures area { λ s. ⌜ now (area .exit) ≡ byNumber (now (input .entry)) (now (area .entry)) (now (out .entry)) n at .area ⌝ }
-    ensures output { λ s. ⌜ now (out .exit) ≡ byNumber (now (input .entry)) (now (area .entry)) (now (out .entry)) n at .output ⌝ }
-{
-    if n == 3 {
-        return report(area, out, at);
-    }
-    if n == 0 {
-        return Stepped::Stopped(8);
-    }
-    if 3 < n {
-        return Stepped::Stopped(8);
-    }
-    match two_numbers(input, at) {
-        Pair::Numbers {
-            first,
-            second,
-            next,
-        } => {
-            if n == 1 {
-                add(area, first, second, next)
-            } else {
-                bind(area, first, second, next)
-            }
-        }
-        Pair::Refused(k) => Stepped::Stopped(k),
-    }
-}
-
 // One step of a session, at position `at` of the input: its answer, and what it leaves in the area and in the output.
 pub fn step(input: &[u8], at: usize, area: &mut [u8], out: &mut [u8]) -> Stepped
     ensures answer { λ s. ⌜ s ≡ stepAt (now (input .entry)) (now (area .entry)) (now (out .entry)) at .answer ⌝ }
     ensures area { λ s. ⌜ now (area .exit) ≡ stepAt (now (input .entry)) (now (area .entry)) (now (out .entry)) at .area ⌝ }
     ensures output { λ s. ⌜ now (out .exit) ≡ stepAt (now (input .entry)) (now (area .entry)) (now (out .entry)) at .output ⌝ }
 {
-    if input.len() <= at {
-        return Stepped::Ended;
-    }
-    match leb128::read(input, at) {
-        leb128::Decoded::Number { value, next } => by_number(input, value, next, area, out),
-        leb128::Decoded::Cut => Stepped::Stopped(1),
-        leb128::Decoded::Invalid => Stepped::Stopped(2),
-    }
-}
-
-// The position at which the session goes on after an answer, and `over` where it is over.
-pub fn goes_on(answer: Stepped, over: usize) -> usize
-    ensures { λ r. ⌜ r ≡ nextOr over answer ⌝ }
-{
-    match answer {
-        Stepped::Ended => over,
-        Stepped::Stopped(n) => over,
-        Stepped::Refused { refusal, next } => next,
-        Stepped::Added { entry, next } => next,
-        Stepped::Bound {
-            turned,
-            appended,
+    match request::request_at(input, at) {
+        Request::Ended => Stepped::Ended,
+        Request::Stopped(n) => Stepped::Stopped(n),
+        Request::Line { left, right, next } => add(area, left, right, next),
+        Request::Choice {
+            variable,
+            term,
             next,
-        } => next,
-        Stepped::Reported { length, next } => next,
+        } => bind(area, variable, term, next),
+        Request::Report { next } => report(area, out, next),
     }
 }

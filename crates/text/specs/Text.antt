@@ -2,7 +2,7 @@
 -- line. Characters are bytes. Assumes nothing: these are definitions.
 use mathlib.Core.List.{List, [], _∷_, _++_}
 use mathlib.Core.Bool.{cond}
-use Prim.Native.Nat.{ℕ, zero, suc, _+_, _/_, _%_}
+use Prim.Native.Nat.{ℕ, zero, suc, _+_, _*_, _/_, _%_}
 use lib.ListN.{length}
 use lib.Dec.{ltb}
 use Rattle.model.specs.Lists.{concatMap}
@@ -45,6 +45,10 @@ following ns = concatMap spaced ns
 unfoldable pub lineText : List ℕ → List ℕ
 lineText [] = lineFeed ∷ []
 lineText (n ∷ ns) = decimal n ++ (following ns ++ lineFeed ∷ [])
+
+-- The most bytes of a line of a number, `count` numbers of 32 bits behind it, and the numbers in `size` bytes.
+abbrev pub lineMost : ℕ → ℕ → ℕ
+lineMost count size = (1 + maxDigits) * (1 + count) + numberMost * size
 
 -- The lines, one after the other.
 unfoldable pub linesText : List (List ℕ) → List ℕ

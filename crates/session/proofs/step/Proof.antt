@@ -1,60 +1,96 @@
--- `session::step` meets its contract: the end of the input, the number at the position, and the step of that number
--- (proofs/Stepping.antt). Assumes nothing.
+-- `session::step` meets its contract: what is asked for at the position, and the call that does it (proofs/Stepping.antt). Assumes
+-- nothing.
 use mathlib.Core.Path.{refl}
 use borrow.Author.Needs.{needs}
-use Rattle.session.specs.Steps.{still, orStop}
-use Rattle.session.proofs.Stepping.{step-ended, step-by}
+use Rattle.session.specs.Steps.{perform}
+use Rattle.session.proofs.Stepping.{stays, adds, binds, reports}
 use Rattle.session.proofs.step.Statement.{statement}
 use Rattle.session.proofs.step.Tie as tie
 
-returns : tie.Need-returns
-returns c = step-ended _ _ _ _ (c .if1 .taken)
-
-read-requires : tie.Need-read-requires
-read-requires c κs = search needs
-
-enum-known-value : tie.Need-enum-known-value
-enum-known-value c = search needs
-
-by-number-requires : tie.Need-by-number-requires
-by-number-requires c κs = search needs
+request-at-requires : tie.Need-request-at-requires
+request-at-requires c κs = search needs
 
 enum-told : tie.Need-enum-told
 enum-told c = search needs
 
-enum-told-2 : tie.Need-enum-told-2
-enum-told-2 c = search needs
+enum-known-n : tie.Need-enum-known-n
+enum-known-n c = search needs
+
+enum-known-left : tie.Need-enum-known-left
+enum-known-left c = search needs
+
+add-requires : tie.Need-add-requires
+add-requires c κs = search needs
+
+enum-known-variable : tie.Need-enum-known-variable
+enum-known-variable c = search needs
+
+bind-requires : tie.Need-bind-requires
+bind-requires c κs = search needs
+
+enum-known-next : tie.Need-enum-known-next
+enum-known-next c = search needs
+
+report-requires : tie.Need-report-requires
+report-requires c κs = search needs
+
+returns : tie.Need-returns
+unfolding perform
+returns c = stays _ _ _ _ (c .before .before .request-at .ensures) (c .enum-told .given .1) _ refl
+
+returns-2 : tie.Need-returns-2
+unfolding perform
+returns-2 c = let known = c .before in stays _ _ _ _ (known .before .before .request-at .ensures) (known .n .given .1) _ refl
 
 same-length : tie.Need-same-length
 same-length c = search needs
 
+returns-3 : tie.Need-returns-3
+returns-3 c =
+    let done = c .before .before in
+    let known = done .before .before .before in
+    adds _ _ _ _ (known .before .before .request-at .ensures) (known .left .given .1) (done .add .ensures)
+
 same-length-2 : tie.Need-same-length-2
 same-length-2 c = search needs
 
-returns-2 : tie.Need-returns-2
-unfolding orStop
-returns-2 c = let called = c .before .before .before .before in let known = called .before .before .before .before in step-by _ _ _ _ (known .before .before .before .if1 .left) (known .before .before .read .ensures .0) (known .value .given .1) (called .by-number .ensures)
-
-returns-3 : tie.Need-returns-3
-unfolding orStop still
-returns-3 c = step-by _ _ _ _ (c .before .before .before .if1 .left) (c .before .before .read .ensures .0) (c .enum-told .given .1) (refl, (refl, refl))
-
 returns-4 : tie.Need-returns-4
-unfolding orStop still
-returns-4 c = step-by _ _ _ _ (c .before .before .before .if1 .left) (c .before .before .read .ensures .0) (c .enum-told2 .given .1) (refl, (refl, refl))
+returns-4 c =
+    let done = c .before .before in
+    let known = done .before .before .before in
+    binds _ _ _ _ (known .before .before .request-at .ensures) (known .variable .given .1) (done .bind .ensures)
+
+same-length-3 : tie.Need-same-length-3
+same-length-3 c = search needs
+
+same-length-4 : tie.Need-same-length-4
+same-length-4 c = search needs
+
+returns-5 : tie.Need-returns-5
+returns-5 c =
+    let done = c .before .before in
+    let known = done .before .before .before .before in
+    reports _ _ _ _ (known .before .before .request-at .ensures) (known .next .given .1) (done .report .ensures)
 
 pub step-spec : {M : Type 1} → statement M
 step-spec =
     tie.close
     (tie.spec
-    returns
-    read-requires
-    enum-known-value
-    by-number-requires
+    request-at-requires
     enum-told
-    enum-told-2
-    same-length
-    same-length-2
+    enum-known-n
+    enum-known-left
+    add-requires
+    enum-known-variable
+    bind-requires
+    enum-known-next
+    report-requires
+    returns
     returns-2
+    same-length
     returns-3
-    returns-4)
+    same-length-2
+    returns-4
+    same-length-3
+    same-length-4
+    returns-5)

@@ -1,4 +1,4 @@
--- `sessions::turn` meets its contract: a step goes on behind its position (crate session, proofs/Progress.antt). Assumes nothing.
+-- `sessions::turn` meets its contract: a step goes on behind its position (crate whole, proofs/Progress.antt). Assumes nothing.
 use mathlib.Core.Path.{_≡_, sym}
 use mathlib.Core.List.{List}
 use Prim.Native.Nat.{ℕ, _<_, _≤_}
@@ -8,8 +8,8 @@ use lib.ListN.{length}
 use lib.Seq.{length-take-le}
 use Rattle.session.specs.declared.Stepped.{Stepped}
 use Rattle.session.specs.Steps.{stepAt, nextOr}
-use Rattle.session.proofs.Printing.{line-within}
-use Rattle.session.proofs.Progress.{steps-go-on, goes-behind}
+use Rattle.lines.proofs.Printing.{line-within}
+use Rattle.whole.proofs.Progress.{steps-go-on, goes-behind}
 use Rattle.sessions.proofs.turn.Statement.{statement}
 use Rattle.sessions.proofs.turn.Tie as tie
 

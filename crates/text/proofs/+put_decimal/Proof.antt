@@ -8,130 +8,88 @@ use borrow.Author.Needs.{needs}
 use Rattle.text.proofs.Digits.{one-laid, kept, last-within, last-laid}
 use borrow.Fn.Kinds.{In}
 use borrow.Fn.PlainCycle.{Measures, is, falls, and}
-use Rattle.text.proofs.put_decimal.Reads as put-decimal
-use Rattle.text.proofs.put_decimal.Kinds as put-decimal-kinds
-use Rattle.text.proofs.+put_decimal.Lts-put_decimal as put-decimal-lts
+use Rattle.text.proofs.put_decimal.Reads as own
+use Rattle.text.proofs.put_decimal.Kinds as kinds
+use Rattle.text.proofs.+put_decimal.Lts-put_decimal as lts
 use Rattle.text.proofs.+put_decimal.{statement}
 use Rattle.text.proofs.+put_decimal.Tie.{close}
 
-abbrev μ-put-decimal : Measures 1 put-decimal-kinds.ps ℕ
-μ-put-decimal κs a = a .1 .1 .0
+abbrev μ : Measures 1 kinds.ps ℕ
+μ κs a = a .1 .1 .0
 
-abbrev put-decimal-at : ℕ → In 1 put-decimal-kinds.ps
-put-decimal-at t =
-    and 1 put-decimal-kinds.ps (is 1 put-decimal-kinds.ps μ-put-decimal t) put-decimal.Pre
+abbrev given : ℕ → In 1 kinds.ps
+given t =
+    and 1 kinds.ps (is 1 kinds.ps μ t) own.Pre
 
-abbrev put-decimal-below : ℕ → In 1 put-decimal-kinds.ps
-put-decimal-below t =
-    and 1 put-decimal-kinds.ps (falls 1 put-decimal-kinds.ps _<_ μ-put-decimal t) put-decimal.Pre
+abbrev below : ℕ → In 1 kinds.ps
+below t =
+    and 1 kinds.ps (falls 1 kinds.ps _<_ μ t) own.Pre
 
-put-decimal-cast-text : (t : ℕ) → put-decimal-lts.Need-cast-text (
-  put-decimal-below t,
-  put-decimal.Post,
-) (put-decimal-at t) put-decimal.Post
-put-decimal-cast-text t c = search needs
+cast-text : (t : ℕ) → lts.Need-cast-text (below t, own.Post) (given t) own.Post
+cast-text t c = search needs
 
-put-decimal-add-text : (t : ℕ) → put-decimal-lts.Need-add-text (
-  put-decimal-below t,
-  put-decimal.Post,
-) (put-decimal-at t) put-decimal.Post
-put-decimal-add-text t c = search needs
+add-text : (t : ℕ) → lts.Need-add-text (below t, own.Post) (given t) own.Post
+add-text t c = search needs
 
-put-decimal-slice-write-text : (t : ℕ) → put-decimal-lts.Need-slice-write-text (
-  put-decimal-below t,
-  put-decimal.Post,
-) (put-decimal-at t) put-decimal.Post
-put-decimal-slice-write-text t c = search needs
+slice-write-text : (t : ℕ) → lts.Need-slice-write-text (below t, own.Post) (given t) own.Post
+slice-write-text t c = search needs
 
-put-decimal-add-result : (t : ℕ) → put-decimal-lts.Need-add-result (
-  put-decimal-below t,
-  put-decimal.Post,
-) (put-decimal-at t) put-decimal.Post
-put-decimal-add-result t c = search needs
+add-result : (t : ℕ) → lts.Need-add-result (below t, own.Post) (given t) own.Post
+add-result t c = search needs
 
-put-decimal-same-length : (t : ℕ) → put-decimal-lts.Need-same-length (
-  put-decimal-below t,
-  put-decimal.Post,
-) (put-decimal-at t) put-decimal.Post
-put-decimal-same-length t c = search needs
+same-length : (t : ℕ) → lts.Need-same-length (below t, own.Post) (given t) own.Post
+same-length t c = search needs
 
-put-decimal-returns : (t : ℕ) → put-decimal-lts.Need-returns (
-  put-decimal-below t,
-  put-decimal.Post,
-) (put-decimal-at t) put-decimal.Post
-put-decimal-returns t c = let s = c .before .before in one-laid (s .args .text .now) (s .args .at) (s .args .n) (s .pre .1) (c .if1 .taken)
+returns : (t : ℕ) → lts.Need-returns (below t, own.Post) (given t) own.Post
+returns t c = let s = c .before .before in one-laid (s .args .text .now) (s .args .at) (s .args .n) (s .pre .1) (c .if1 .taken)
 
-put-decimal-put-decimal-requires : (t : ℕ) → put-decimal-lts.Need-put-decimal-requires (
-  put-decimal-below t,
-  put-decimal.Post,
-) (put-decimal-at t) put-decimal.Post
-put-decimal-put-decimal-requires t c κs = let s = c .before .before .before in (omega (arith, s .pre .0), s .pre .1)
+call-requires : (t : ℕ) → lts.Need-put-decimal-requires (below t, own.Post) (given t) own.Post
+call-requires t c κs = let s = c .before .before .before in (omega (arith, s .pre .0), s .pre .1)
 
-put-decimal-cast-text-2 : (t : ℕ) → put-decimal-lts.Need-cast-text-2 (
-  put-decimal-below t,
-  put-decimal.Post,
-) (put-decimal-at t) put-decimal.Post
-put-decimal-cast-text-2 t c = search needs
+cast-text-2 : (t : ℕ) → lts.Need-cast-text-2 (below t, own.Post) (given t) own.Post
+cast-text-2 t c = search needs
 
-put-decimal-add-text-2 : (t : ℕ) → put-decimal-lts.Need-add-text-2 (
-  put-decimal-below t,
-  put-decimal.Post,
-) (put-decimal-at t) put-decimal.Post
-put-decimal-add-text-2 t c = search needs
+add-text-2 : (t : ℕ) → lts.Need-add-text-2 (below t, own.Post) (given t) own.Post
+add-text-2 t c = search needs
 
-put-decimal-slice-write-text-2 : (t : ℕ) → put-decimal-lts.Need-slice-write-text-2 (
-  put-decimal-below t,
-  put-decimal.Post,
-) (put-decimal-at t) put-decimal.Post
-put-decimal-slice-write-text-2 t c =
+slice-write-text-2 : (t : ℕ) → lts.Need-slice-write-text-2 (below t, own.Post) (given t) own.Post
+slice-write-text-2 t c =
     let s = c .before .before .before .before .before .before in
     let call = c .before .before .put-decimal in
     last-within _ _ (s .args .n) (s .pre .1) (c .before .before .before .before .if1 .left) (omega arith) _ _ (call .ensures)
 
-put-decimal-add-result-2 : (t : ℕ) → put-decimal-lts.Need-add-result-2 (
-  put-decimal-below t,
-  put-decimal.Post,
-) (put-decimal-at t) put-decimal.Post
-put-decimal-add-result-2 t c =
+add-result-2 : (t : ℕ) → lts.Need-add-result-2 (below t, own.Post) (given t) own.Post
+add-result-2 t c =
     let s = c .before .before .before .before .before .before in
     let call = c .before .before .put-decimal in
     let within = last-within _ _ (s .args .n) (s .pre .1) (c .before .before .before .before .if1 .left) (omega arith) _ _ (call .ensures) in search needs
 
-put-decimal-same-length-2 : (t : ℕ) → put-decimal-lts.Need-same-length-2 (
-  put-decimal-below t,
-  put-decimal.Post,
-) (put-decimal-at t) put-decimal.Post
-put-decimal-same-length-2 t c =
+same-length-2 : (t : ℕ) → lts.Need-same-length-2 (below t, own.Post) (given t) own.Post
+same-length-2 t c =
     let s = c .before .before .before .before .before .before in
     let call = c .before .before .put-decimal in
     length-set (call .last .0) _ _ ∙ kept _ _ (s .args .n) (s .pre .1) (c .before .before .before .before .if1 .left) (omega arith) _ _ (call .ensures)
 
-put-decimal-returns-2 : (t : ℕ) → put-decimal-lts.Need-returns-2 (
-  put-decimal-below t,
-  put-decimal.Post,
-) (put-decimal-at t) put-decimal.Post
-put-decimal-returns-2 t c =
+returns-2 : (t : ℕ) → lts.Need-returns-2 (below t, own.Post) (given t) own.Post
+returns-2 t c =
     let s = c .before .before .before .before .before .before in
     let call = c .before .before .put-decimal in
     last-laid _ _ (s .args .n) (s .pre .1) (c .before .before .before .before .if1 .left) (omega arith) _ _ (call .ensures)
 
 pub +put-decimal-spec : {M : Type 1} → statement M
-+put-decimal-spec = close μ-put-decimal λ t. put-decimal-lts.spec (
-  put-decimal-below t,
-  put-decimal.Post,
-)
-    (put-decimal-at t)
-    put-decimal.Post
-    (put-decimal-cast-text t)
-    (put-decimal-add-text t)
-    (put-decimal-slice-write-text t)
-    (put-decimal-add-result t)
-    (put-decimal-same-length t)
-    (put-decimal-returns t)
-    (put-decimal-put-decimal-requires t)
-    (put-decimal-cast-text-2 t)
-    (put-decimal-add-text-2 t)
-    (put-decimal-slice-write-text-2 t)
-    (put-decimal-add-result-2 t)
-    (put-decimal-same-length-2 t)
-    (put-decimal-returns-2 t)
++put-decimal-spec = close μ λ t. lts.spec (below t, own.Post)
+    (given t)
+    own.Post
+    (cast-text t)
+    (add-text t)
+    (slice-write-text t)
+    (add-result t)
+    (same-length t)
+    (returns t)
+    (call-requires t)
+    (cast-text-2 t)
+    (add-text-2 t)
+    (slice-write-text-2 t)
+    (add-result-2 t)
+    (same-length-2 t)
+    (returns-2 t)

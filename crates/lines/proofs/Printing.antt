@@ -1,0 +1,50 @@
+-- The lines of an opening and of a step as text, by their answers. Assumes nothing.
+use mathlib.Core.Path.{_≡_, refl, ap, _∙_}
+use mathlib.Core.List.{List, [], _∷_, _++_, append-nil}
+use Prim.Native.Nat.{ℕ, _≤_}
+use native.Mathlib.Omega.{arith}
+use lib.ListN.{length, drop, length-append}
+use lib.Seq.{take-all}
+use Rattle.model.specs.Lists.{concatMap}
+use Rattle.text.specs.Text.{lineText, linesText, numbersIn}
+use Rattle.session.specs.declared.Begun.{Begun}
+use Rattle.session.specs.declared.Stepped.{Stepped}
+use Rattle.session.specs.declared.Stepped.the-variants.{Ended, Reported}
+use Rattle.lines.specs.Lines.{openingLine, lines}
+
+-- The bytes stand at the front of `text`, which gives `end`, and r is their length.
+abbrev Front : List ℕ → List ℕ → ℕ → List ℕ → Type 0
+Front text end r bytes = (r ≡ length bytes) × (end ≡ bytes ++ drop r text)
+
+-- so they are no more than the buffer has
+front-within : (text end : List ℕ) (r : ℕ) (bytes : List ℕ) → Front text end r bytes → r ≤ length end
+front-within text end r bytes f = omega (arith, f .0, ap length (f .1), length-append bytes (drop r text))
+
+pub line-within : (answer : Stepped) (out text end : List ℕ) (r : ℕ) → Front text end r (linesText (lines answer out)) → r ≤ length end
+line-within answer out text end r f = front-within text end r (linesText (lines answer out)) f
+
+pub opening-within : (answer : Begun) (text end : List ℕ) (r : ℕ) → Front text end r (lineText (openingLine answer)) → r ≤ length end
+opening-within answer text end r f = front-within text end r (lineText (openingLine answer)) f
+
+-- a step's line, by its answer
+module _ (text end : List ℕ) (r : ℕ) (out : List ℕ) where
+  pub prints : {answer answer′ : Stepped} → answer ≡ answer′ → {ns : List ℕ} → lines answer′ out ≡ ns ∷ [] → Front text end r (lineText ns)
+      → Front text end r (linesText (lines answer out))
+  unfolding linesText concatMap
+  prints {answer} e {ns} h f = let one : lines answer out ≡ ns ∷ [] = ap (λ a. lines a out) e ∙ h in rw (one, append-nil) f
+
+  -- a report whose length is past the end of the output is the whole output
+  pub prints-all : {answer : Stepped} {n next : ℕ} → answer ≡ Reported n next → length out ≤ n → Front text end r (lineText (0 ∷ numbersIn out))
+      → Front text end r (linesText (lines answer out))
+  unfolding lines
+  prints-all {answer} {n} e h f = prints e (ap (λ xs. (0 ∷ numbersIn xs) ∷ []) (take-all n out h)) f
+
+-- the end of the input prints nothing
+pub prints-none : (text out : List ℕ) {answer : Stepped} → answer ≡ Ended → Front text text 0 (linesText (lines answer out))
+unfolding linesText concatMap lines
+prints-none text out {answer} e = let none : lines answer out ≡ [] = ap (λ a. lines a out) e in rw none (refl, refl)
+
+-- an opening's line
+pub opening-prints : (text end : List ℕ) (r : ℕ) {answer answer′ : Begun} → answer ≡ answer′ → {ns : List ℕ} → openingLine answer′ ≡ ns
+    → Front text end r (lineText ns) → Front text end r (lineText (openingLine answer))
+opening-prints text end r e h f = let same = ap openingLine e ∙ h in rw same f

@@ -1,0 +1,3 @@
+pub mod Progress
+pub mod Steps
+pub mod Theorems

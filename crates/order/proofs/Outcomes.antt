@@ -46,14 +46,6 @@ module _ {rows words : List ℕ} {n t : ℕ} {marks list : List ℕ} {done : ℕ
   pub outcome-met : getD marks t 0 ≡ 1 → Outcome rows words n (t ∷ []) marks marks list (record { ok = false; done = done })
   outcome-met e = refused refl (stuck-met (bookOf rows n) (boundOf words n) marks t is-term e)
 
-  -- ---- no more parts
-
-  pub outcome-none : (i : ℕ) → length (partsIn rows words n t) ≤ i
-      → Outcome rows words n (drop i (partsIn rows words n t)) marks marks list (record { ok = true; done = done })
-  outcome-none i h =
-      accepted refl
-      (walked-none (bookOf rows n) (boundOf words n) (drop i (partsIn rows words n t)) (r .marking) (drop-of-length-le (partsIn rows words n t) h))
-
 -- ---- a term that is new
 
 pub record New (rows words : List ℕ) (n t : ℕ) (marks list : List ℕ) (done : ℕ) : Type 0 where
@@ -74,7 +66,7 @@ module _ {rows words : List ℕ} {n t : ℕ} {marks list : List ℕ} {done : ℕ
         marking = started (bookOf rows n) (boundOf words n) marks t (is-term (s .ready)) (s .ready .marking .marks-fit) new (s .ready .marking);
       }
 
-  pub fewer-left : 10 * marked (set marks t 1) n 0 + 9 < 10 * marked marks n 0
+  pub fewer-left : 2 * marked (set marks t 1) n 0 + 1 < 2 * marked marks n 0
   fewer-left =
       rw (← good (s .ready) .size)
       (omega (arith, fewer-new (bookOf rows n) (boundOf words n) marks t (is-term (s .ready)) (s .ready .marking .marks-fit) new))
@@ -100,47 +92,77 @@ module _ {rows words : List ℕ} {n t : ℕ} {marks list : List ℕ} {done : ℕ
         (walked-term (bookOf rows n) (boundOf words n) marks t (is-term (s .ready)) (s .ready .marking .marks-fit) new (good (s .ready) .formed)
         (below .accepts e))
 
--- ---- the i-th part, u
+-- ---- parts one after the other
 
-pub record Part (rows words : List ℕ) (n t : ℕ) (marks list : List ℕ) (done i u : ℕ) : Type 0 where
+-- those before the i-th are walked: what the walk of the others answers is the answer for all
+pub record Between (rows words : List ℕ) (n t : ℕ) (before marks list : List ℕ) (done i : ℕ) : Type 0 where
   pub ready : Ready rows words n t marks list done
+  pub no-more-left : marked marks n 0 ≤ marked before n 0
+  pub whole : (marks′ list′ : List ℕ) (w : Walk) → Outcome rows words n (drop i (partsIn rows words n t)) marks marks′ list′ w
+      → Outcome rows words n (partsIn rows words n t) before marks′ list′ w
+
+-- the i-th is u
+pub record Part (rows words : List ℕ) (n t : ℕ) (before marks list : List ℕ) (done i u : ℕ) : Type 0 where
+  pub between : Between rows words n t before marks list done i
   pub inside : i < length (partsIn rows words n t)
   pub is : u ≡ getD (partsIn rows words n t) i 0
 
-module _ {rows words : List ℕ} {n t : ℕ} {marks list : List ℕ} {done i u : ℕ} (p : Part rows words n t marks list done i u) where
-  part-term : u < length (bookOf rows n)
-  part-term = rw (p .is) (part-lt (bookOf rows n) (boundOf words n) (good (p .ready) .formed) t (is-term (p .ready)) i (p .inside))
+module _ {rows words : List ℕ} {n t : ℕ} where
+  pub between-none : {marks list : List ℕ} {done : ℕ} → Ready rows words n t marks list done
+      → Between rows words n t marks marks list done 0
+  between-none r = record { ready = r; no-more-left = omega arith; whole = λ marks′ list′ w h. h }
 
-  pub part-few : i < maxArity
-  part-few = omega (arith, p .inside, few-parts (bookOf rows n) (boundOf words n) (good (p .ready) .formed) t (is-term (p .ready)))
+  module _ {before marks list : List ℕ} {done i : ℕ} where
+    pub outcome-parts : Between rows words n t before marks list done i → length (partsIn rows words n t) ≤ i
+        → Outcome rows words n (partsIn rows words n t) before marks list (record { ok = true; done = done })
+    outcome-parts s h =
+        let none : drop i (partsIn rows words n t) ≡ [] = drop-of-length-le (partsIn rows words n t) h in
+        s .whole marks list (record { ok = true; done = done })
+        (accepted refl (walked-none (bookOf rows n) (boundOf words n) (drop i (partsIn rows words n t)) (s .ready .marking) none))
 
-  pub part-ready : Ready rows words n u marks list done
-  part-ready =
-      record { good = p .ready .good; term = omega (arith, part-term, good (p .ready) .size); marking = p .ready .marking }
+    module _ {u : ℕ} (p : Part rows words n t before marks list done i u) where
+      ready : Ready rows words n t marks list done
+      ready = p .between .ready
 
-  module _ {marks′ list′ : List ℕ} {w : Walk} (first : Outcome rows words n (u ∷ []) marks marks′ list′ w) where
-    pub outcome-first : w .ok ≡ false → Outcome rows words n (drop i (partsIn rows words n t)) marks marks′ list′ w
-    outcome-first f =
-        rw (drop-part (partsIn rows words n t) i u (p .inside) (p .is))
-        (refused f (stuck-first (bookOf rows n) (boundOf words n) marks u (drop (i + 1) (partsIn rows words n t)) (first .refuses f)))
+      part-term : u < length (bookOf rows n)
+      part-term = rw (p .is) (part-lt (bookOf rows n) (boundOf words n) (good ready .formed) t (is-term ready) i (p .inside))
 
-    module _ (f : w .ok ≡ true) where
-      pub rest-ready : Ready rows words n t marks′ list′ (w .done)
-      rest-ready = record { good = p .ready .good; term = p .ready .term; marking = first .accepts f .marking }
+      pub part-few : i < maxArity
+      part-few = omega (arith, p .inside, few-parts (bookOf rows n) (boundOf words n) (good ready .formed) t (is-term ready))
 
-      pub no-more-left : marked marks′ n 0 ≤ marked marks n 0
-      no-more-left =
-          rw (← good (p .ready) .size)
-          (no-more-new (bookOf rows n) (boundOf words n) marks u (drop (i + 1) (partsIn rows words n t)) (first .accepts f))
+      pub part-ready : Ready rows words n u marks list done
+      part-ready = record { good = ready .good; term = omega (arith, part-term, good ready .size); marking = ready .marking }
 
-      pub outcome-rest : {marks″ list″ : List ℕ} {w′ : Walk}
-          → Outcome rows words n (drop (i + 1) (partsIn rows words n t)) marks′ marks″ list″ w′
-          → Outcome rows words n (drop i (partsIn rows words n t)) marks marks″ list″ w′
-      outcome-rest rest =
-          rw (drop-part (partsIn rows words n t) i u (p .inside) (p .is))
-          record {
-            accepts = λ g. walked-more (bookOf rows n) (boundOf words n) marks u (drop (i + 1) (partsIn rows words n t)) (first .accepts f)
-                part-term (rest .accepts g);
-            refuses = λ g. stuck-rest (bookOf rows n) (boundOf words n) marks u (drop (i + 1) (partsIn rows words n t)) (first .accepts f)
-                (rest .refuses g);
-          }
+      from-part : drop i (partsIn rows words n t) ≡ u ∷ drop (i + 1) (partsIn rows words n t)
+      from-part = drop-part (partsIn rows words n t) i u (p .inside) (p .is)
+
+      module _ {marks′ list′ : List ℕ} {w : Walk} (first : Outcome rows words n (u ∷ []) marks marks′ list′ w) where
+        pub outcome-part : w .ok ≡ false → Outcome rows words n (partsIn rows words n t) before marks′ list′ w
+        outcome-part f =
+            p .between .whole marks′ list′ w
+            (rw from-part
+            (refused f
+            (stuck-first (bookOf rows n) (boundOf words n) marks u (drop (i + 1) (partsIn rows words n t)) (first .refuses f))))
+
+        pub between-more : w .ok ≡ true → Between rows words n t before marks′ list′ (w .done) (i + 1)
+        between-more f =
+            record {
+              ready = record { good = ready .good; term = ready .term; marking = walked .marking };
+              no-more-left = omega (arith, p .between .no-more-left, no-more);
+              whole = λ marks″ list″ w′ others. p .between .whole marks″ list″ w′
+                  (rw from-part
+                  record {
+                    accepts = λ g. walked-more (bookOf rows n) (boundOf words n) marks u (drop (i + 1) (partsIn rows words n t)) walked part-term
+                        (others .accepts g);
+                    refuses = λ g. stuck-rest (bookOf rows n) (boundOf words n) marks u (drop (i + 1) (partsIn rows words n t)) walked
+                        (others .refuses g);
+                  });
+            }
+          where
+            walked : Walked (bookOf rows n) (boundOf words n) marks (u ∷ []) marks′ list′ (w .done)
+            walked = first .accepts f
+
+            no-more : marked marks′ n 0 ≤ marked marks n 0
+            no-more =
+                rw (← good ready .size)
+                (no-more-new (bookOf rows n) (boundOf words n) marks u (drop (i + 1) (partsIn rows words n t)) walked)

@@ -69,7 +69,7 @@ fn walk_term(
         return Walk { ok: false, done };
     }
     marks[t as usize] = 1;
-    let w = walk_arguments(rows, bindings, n, t, 0, marks, list, done);
+    let w = walk_arguments(rows, bindings, n, t, marks, list, done);
     if !w.ok {
         return w;
     }
@@ -82,32 +82,37 @@ fn walk_term(
     }
 }
 
-// Walks what the value of `t` is made of, from the `i`-th term on.
+// Walks what the value of `t` is made of, one term after the other.
 fn walk_arguments(
     rows: &[u32],
     bindings: &[u32],
     n: u32,
     t: u32,
-    i: usize,
     marks: &mut [u32],
     list: &mut [u32],
     done: u32,
 ) -> Walk
     requires { ⌜ Ready (now rows) (now bindings) n t (now marks) (now list) done ⌝ }
     ensures { λ r. ⌜ Outcome (now (rows .entry)) (now (bindings .entry)) n
-        (drop i (partsIn (now (rows .entry)) (now (bindings .entry)) n t))
+        (partsIn (now (rows .entry)) (now (bindings .entry)) n t)
         (now (marks .entry)) (now (marks .exit)) (now (list .exit)) r ⌝ }
 {
-    if i >= part_count(rows, bindings, n, t) {
-        return Walk { ok: true, done };
+    let count = part_count(rows, bindings, n, t);
+    let mut place = done;
+    let mut i = 0;
+    while i < count {
+        let u = part(rows, bindings, n, t, i);
+        let w = walk_term(rows, bindings, n, u, marks, list, place);
+        if !w.ok {
+            return w;
+        }
+        place = w.done;
+        i += 1;
     }
-    let u = part(rows, bindings, n, t, i);
-    let w = walk_term(rows, bindings, n, u, marks, list, done);
-    if !w.ok {
-        return w;
+    Walk {
+        ok: true,
+        done: place,
     }
-    let place = w.done;
-    walk_arguments(rows, bindings, n, t, i + 1, marks, list, place)
 }
 
 // Clears the first `n` marks.

@@ -1,13 +1,13 @@
--- The proof of the cycle of calls {walk_arguments, walk_term}. The measure is the count of terms that are to be met, ten times;
--- a walk of parts adds what is left of the at most eight, and one. Assumes nothing.
-use mathlib.Core.Path.{_∙_}
+-- The proof of the cycle of calls {walk_arguments, walk_term}. The measure is the count of terms that are to be met, twice, and
+-- one more for a walk of parts; that of its loop is the parts that are left. Assumes nothing.
+use mathlib.Core.Path.{_≡_, refl, _∙_}
 use Prim.Native.Nat.{ℕ, _+_, _*_, _-_, _<_}
 use native.Mathlib.Omega.{arith}
 use borrow.Author.Needs.{needs}
 use borrow.Author.Tests.{not-true, not-false}
 use lib.ListN.{length, length-set}
 use Rattle.order.specs.Marking.{marked}
-use Rattle.order.proofs.Outcomes.{term-room, outcome-finished, outcome-met, outcome-none, New, start-ready, fewer-left, outcome-stuck, next-place, outcome-term, Part, part-few, part-ready, outcome-first, rest-ready, no-more-left, outcome-rest}
+use Rattle.order.proofs.Outcomes.{term-room, outcome-finished, outcome-met, New, start-ready, fewer-left, outcome-stuck, next-place, outcome-term, Between, Part, between-none, outcome-parts, part-few, part-ready, outcome-part, between-more}
 use borrow.Fn.Kinds.{In}
 use borrow.Fn.PlainCycle.{Measures, is, falls, and}
 use Rattle.order.proofs.walk_arguments.Reads as walk-arguments
@@ -22,10 +22,10 @@ use Rattle.order.proofs.+walk_arguments+walk_term.{statement}
 use Rattle.order.proofs.+walk_arguments+walk_term.Tie.{close}
 
 abbrev μ-walk-arguments : Measures 4 walk-arguments-kinds.ps ℕ
-μ-walk-arguments κs a = 10 * marked (a .1 .1 .1 .1 .1 .0 .now) (a .1 .1 .0) 0 + (9 - a .1 .1 .1 .1 .0)
+μ-walk-arguments κs a = 2 * marked (a .1 .1 .1 .1 .0 .now) (a .1 .1 .0) 0 + 1
 
 abbrev μ-walk-term : Measures 4 walk-term-kinds.ps ℕ
-μ-walk-term κs a = 10 * marked (a .1 .1 .1 .1 .0 .now) (a .1 .1 .0) 0
+μ-walk-term κs a = 2 * marked (a .1 .1 .1 .1 .0 .now) (a .1 .1 .0) 0
 
 -- what each is given at the measure m, and what a call of it asks below m
 abbrev walk-arguments-at : ℕ → In 4 walk-arguments-kinds.ps
@@ -42,100 +42,109 @@ walk-term-below m = and 4 walk-term-kinds.ps (falls 4 walk-term-kinds.ps _<_ μ-
 
 -- what each one's calls ask and give
 abbrev walk-arguments-calls : ℕ → walk-arguments-lts.Claims
-walk-arguments-calls m = (
-  part-count-reads.Asked,
-  part-count-reads.Learnt,
-  part-reads.Asked,
-  part-reads.Learnt,
-  walk-term-below m,
-  walk-term.Post,
-  walk-arguments-below m,
-  walk-arguments.Post,
-)
+walk-arguments-calls m = (part-count-reads.Asked, part-count-reads.Learnt, part-reads.Asked, part-reads.Learnt, walk-term-below m, walk-term.Post)
 
 abbrev walk-term-calls : ℕ → walk-term-lts.Claims
 walk-term-calls m = (walk-arguments-below m, walk-arguments.Post)
+
+abbrev Inv-loop : walk-arguments-lts.InvT-loop
+Inv-loop rows bindings n t marks₀ list₀ done count place₀ i₀ marks list place i =
+    Between rows bindings n t marks₀ marks list place i × (length marks ≡ length marks₀) × (length list ≡ length list₀)
+
+abbrev μ-loop : walk-arguments-lts.MeasureT-loop
+μ-loop rows bindings n t marks₀ list₀ done count place₀ i₀ marks list place i = count - i
 
 module _ (m : ℕ) where
   -- ---- walk_arguments
 
   -- the part that is walked
-  part-at : (c : walk-arguments-lts.After-part (walk-arguments-calls m) (walk-arguments-at m) walk-arguments.Post) →
-      let a = c .before .before .before .before .before .before .before .args in
-      Part (a .rows .now) (a .bindings .now) (a .n) (a .t) (a .marks .now) (a .list .now) (a .done) (a .i) (c .part .result)
+  part-at : (c : walk-arguments-lts.After-part (walk-arguments-calls m) (walk-arguments-at m) walk-arguments.Post Inv-loop μ-loop) →
+      let head = c .before .before in
+      let a = head .before .before .before .before .before .before .args in
+      Part (a .rows .now) (a .bindings .now) (a .n) (a .t) (a .marks .now) (head .loop .marks) (head .loop .list) (head .loop .place) (head .loop .i)
+      (c .part .result)
   part-at c =
+      let head = c .before .before in
       record {
-        ready = c .before .before .before .before .before .before .before .pre .1;
-        inside = omega (arith, c .before .before .part-count .ensures, c .before .if1 .left);
+        between = head .loop .inv .0;
+        inside = omega (arith, head .before .part-count .ensures, c .before .loop-test .taken);
         is = c .part .ensures;
       }
 
-  walk-arguments-part-count-requires : walk-arguments-lts.Need-part-count-requires (walk-arguments-calls m) (walk-arguments-at m) walk-arguments.Post
+  walk-arguments-part-count-requires : walk-arguments-lts.Need-part-count-requires (walk-arguments-calls m) (walk-arguments-at m) walk-arguments.Post Inv-loop μ-loop
   walk-arguments-part-count-requires c κs = (c .before .before .before .before .pre .1 .good, c .before .before .before .before .pre .1 .term)
 
-  walk-arguments-returns : walk-arguments-lts.Need-returns (walk-arguments-calls m) (walk-arguments-at m) walk-arguments.Post
-  walk-arguments-returns c =
-      let start = c .before .before .before .before .before .before in
-      outcome-none (start .pre .1) (start .args .i) (omega (arith, c .before .part-count .ensures, c .if1 .taken))
+  walk-arguments-loop-holds : walk-arguments-lts.Need-loop-holds (walk-arguments-calls m) (walk-arguments-at m) walk-arguments.Post Inv-loop μ-loop
+  walk-arguments-loop-holds c = (between-none (c .before .before .before .before .before .pre .1), refl, refl)
 
-  walk-arguments-part-requires : walk-arguments-lts.Need-part-requires (walk-arguments-calls m) (walk-arguments-at m) walk-arguments.Post
+  walk-arguments-part-requires : walk-arguments-lts.Need-part-requires (walk-arguments-calls m) (walk-arguments-at m) walk-arguments.Post Inv-loop μ-loop
   walk-arguments-part-requires c κs =
-      let ready = c .before .before .before .before .before .before .pre .1 in
-      (ready .good, (ready .term, omega (arith, c .before .part-count .ensures, c .if1 .left)))
+      let head = c .before in
+      let ready = head .loop .inv .0 .ready in
+      (ready .good, (ready .term, omega (arith, head .before .part-count .ensures, c .loop-test .taken)))
 
-  walk-arguments-walk-term-requires : walk-arguments-lts.Need-walk-term-requires (walk-arguments-calls m) (walk-arguments-at m) walk-arguments.Post
+  walk-arguments-walk-term-requires : walk-arguments-lts.Need-walk-term-requires (walk-arguments-calls m) (walk-arguments-at m) walk-arguments.Post Inv-loop μ-loop
   walk-arguments-walk-term-requires c κs =
       let part = part-at (c .before .before) in
-      (omega (arith, c .before .before .before .before .before .before .before .before .before .pre .0, part-few part), part-ready part)
+      (omega (arith, c .before .before .before .before .before .before .before .before .before .before .pre .0, part .between .no-more-left), part-ready part)
 
-  walk-arguments-same-length : walk-arguments-lts.Need-same-length (walk-arguments-calls m) (walk-arguments-at m) walk-arguments.Post
-  walk-arguments-same-length c = search needs
-
-  walk-arguments-same-length-2 : walk-arguments-lts.Need-same-length-2 (walk-arguments-calls m) (walk-arguments-at m) walk-arguments.Post
-  walk-arguments-same-length-2 c = search needs
-
-  walk-arguments-returns-2 : walk-arguments-lts.Need-returns-2 (walk-arguments-calls m) (walk-arguments-at m) walk-arguments.Post
-  walk-arguments-returns-2 c =
+  walk-arguments-same-length : walk-arguments-lts.Need-same-length (walk-arguments-calls m) (walk-arguments-at m) walk-arguments.Post Inv-loop μ-loop
+  walk-arguments-same-length c =
       let called = c .before .before .before .before .before .before in
-      outcome-first (part-at (called .before .before .before)) (called .walk-term .ensures) (not-true _ (c .if2 .taken))
+      called .walk-term .kept .1 .1 .1 .1 .0 ∙ called .before .before .before .before .before .loop .inv .1
 
-  walk-arguments-add-walk-arguments : walk-arguments-lts.Need-add-walk-arguments (walk-arguments-calls m) (walk-arguments-at m) walk-arguments.Post
-  walk-arguments-add-walk-arguments c = omega (arith, part-few (part-at (c .before .before .before .before .before .before .before .before .before)))
+  walk-arguments-same-length-2 : walk-arguments-lts.Need-same-length-2 (walk-arguments-calls m) (walk-arguments-at m) walk-arguments.Post Inv-loop μ-loop
+  walk-arguments-same-length-2 c =
+      let called = c .before .before .before .before .before .before in
+      called .walk-term .kept .1 .1 .1 .1 .1 .0 ∙ called .before .before .before .before .before .loop .inv .2
 
-  walk-arguments-walk-arguments-requires : walk-arguments-lts.Need-walk-arguments-requires (walk-arguments-calls m) (walk-arguments-at m) walk-arguments.Post
-  walk-arguments-walk-arguments-requires c κs =
-      let called = c .before .before .before .before .before .before .before .before in
-      let part = part-at (called .before .before .before) in
-      let first = called .walk-term .ensures in
-      let ok = not-false (called .walk-term .result .ok) (c .before .before .if2 .left) in
-      (omega (arith, called .before .before .before .before .before .before .before .before .before .before .pre .0, part-few part, no-more-left part first ok), rest-ready part first ok)
+  walk-arguments-returns : walk-arguments-lts.Need-returns (walk-arguments-calls m) (walk-arguments-at m) walk-arguments.Post Inv-loop μ-loop
+  walk-arguments-returns c =
+      let called = c .before .before .before .before .before .before in
+      outcome-part (part-at (called .before .before .before)) (called .walk-term .ensures) (not-true _ (c .if1 .taken))
 
-  walk-arguments-same-length-3 : walk-arguments-lts.Need-same-length-3 (walk-arguments-calls m) (walk-arguments-at m) walk-arguments.Post
-  walk-arguments-same-length-3 c = search needs
+  walk-arguments-add-i : walk-arguments-lts.Need-add-i (walk-arguments-calls m) (walk-arguments-at m) walk-arguments.Post Inv-loop μ-loop
+  walk-arguments-add-i c = omega (arith, part-few (part-at (c .before .before .before .before .before .before .before .before .before)))
 
-  walk-arguments-same-length-4 : walk-arguments-lts.Need-same-length-4 (walk-arguments-calls m) (walk-arguments-at m) walk-arguments.Post
-  walk-arguments-same-length-4 c = search needs
+  walk-arguments-loop-less : walk-arguments-lts.Need-loop-less (walk-arguments-calls m) (walk-arguments-at m) walk-arguments.Post Inv-loop μ-loop
+  walk-arguments-loop-less c = search needs
 
-  walk-arguments-returns-3 : walk-arguments-lts.Need-returns-3 (walk-arguments-calls m) (walk-arguments-at m) walk-arguments.Post
-  walk-arguments-returns-3 c =
-      let called = c .before .before .before .before .before .before .before .before .before .before .before .before .before in
-      outcome-rest (part-at (called .before .before .before)) (called .walk-term .ensures) (not-false _ (c .before .before .before .before .before .before .before .if2 .left)) (c .before .before .before .before .walk-arguments .ensures)
+  walk-arguments-loop-again : walk-arguments-lts.Need-loop-again (walk-arguments-calls m) (walk-arguments-at m) walk-arguments.Post Inv-loop μ-loop
+  walk-arguments-loop-again c =
+      let called = c .before .before .before .before .before .before in
+      let head = called .before .before .before .before .before in (
+        between-more (part-at (called .before .before .before)) (called .walk-term .ensures) (not-false _ (c .if1 .left)),
+        called .walk-term .kept .1 .1 .1 .1 .0 ∙ head .loop .inv .1,
+        called .walk-term .kept .1 .1 .1 .1 .1 .0 ∙ head .loop .inv .2,
+      )
+
+  walk-arguments-same-length-3 : walk-arguments-lts.Need-same-length-3 (walk-arguments-calls m) (walk-arguments-at m) walk-arguments.Post Inv-loop μ-loop
+  walk-arguments-same-length-3 c = c .before .loop .inv .1
+
+  walk-arguments-same-length-4 : walk-arguments-lts.Need-same-length-4 (walk-arguments-calls m) (walk-arguments-at m) walk-arguments.Post Inv-loop μ-loop
+  walk-arguments-same-length-4 c = c .before .loop .inv .2
+
+  walk-arguments-returns-2 : walk-arguments-lts.Need-returns-2 (walk-arguments-calls m) (walk-arguments-at m) walk-arguments.Post Inv-loop μ-loop
+  walk-arguments-returns-2 c = outcome-parts (c .before .loop .inv .0) (omega (arith, c .before .before .part-count .ensures, c .loop-test .left))
 
   walk-arguments-meets : {M : Type 1} → walk-arguments-lts.Closed (walk-arguments-calls m) (walk-arguments-at m) walk-arguments.Post M
   walk-arguments-meets =
       walk-arguments-lts.spec (walk-arguments-calls m) (walk-arguments-at m) walk-arguments.Post
+      Inv-loop
+      μ-loop
       walk-arguments-part-count-requires
-      walk-arguments-returns
+      walk-arguments-loop-holds
       walk-arguments-part-requires
       walk-arguments-walk-term-requires
       walk-arguments-same-length
       walk-arguments-same-length-2
-      walk-arguments-returns-2
-      walk-arguments-add-walk-arguments
-      walk-arguments-walk-arguments-requires
+      walk-arguments-returns
+      walk-arguments-add-i
+      walk-arguments-loop-less
+      walk-arguments-loop-again
       walk-arguments-same-length-3
       walk-arguments-same-length-4
-      walk-arguments-returns-3
+      walk-arguments-returns-2
 
   -- ---- walk_term
 
@@ -150,8 +159,8 @@ module _ (m : ℕ) where
       let called = c .before .before .before .before .before .before in
       let call = called .walk-arguments in
       let a = called .before .before .before .before .before .before .before .before .before .before .args in
-      (call .result .done < a .n) × (call .result .done < length (call .last .1 .1 .1 .1 .1 .1 .0))
-      × (a .t < length (call .last .1 .1 .1 .1 .1 .0))
+      (call .result .done < a .n) × (call .result .done < length (call .last .1 .1 .1 .1 .1 .0))
+      × (a .t < length (call .last .1 .1 .1 .1 .0))
   placed c =
       let called = c .before .before .before .before .before .before in
       next-place (new-at (called .before .before .before)) (called .walk-arguments .ensures) (not-false _ (c .if3 .left))
@@ -180,7 +189,7 @@ module _ (m : ℕ) where
       (omega (arith, c .before .before .before .before .before .before .before .before .before .pre .0, fewer-left new), start-ready new)
 
   walk-term-same-length : walk-term-lts.Need-same-length (walk-term-calls m) (walk-term-at m) walk-term.Post
-  walk-term-same-length c = c .before .before .before .before .before .before .walk-arguments .kept .1 .1 .1 .1 .1 .0 ∙ simp length-set
+  walk-term-same-length c = c .before .before .before .before .before .before .walk-arguments .kept .1 .1 .1 .1 .0 ∙ simp length-set
 
   walk-term-same-length-2 : walk-term-lts.Need-same-length-2 (walk-term-calls m) (walk-term-at m) walk-term.Post
   walk-term-same-length-2 c = search needs
@@ -211,7 +220,7 @@ module _ (m : ℕ) where
       omega (arith, placed c .0, called .before .before .before .before .before .before .before .before .before .before .fits .n)
 
   walk-term-same-length-3 : walk-term-lts.Need-same-length-3 (walk-term-calls m) (walk-term-at m) walk-term.Post
-  walk-term-same-length-3 c = rw length-set (c .before .before .before .before .before .before .walk-arguments .kept .1 .1 .1 .1 .1 .0 ∙ simp length-set)
+  walk-term-same-length-3 c = rw length-set (c .before .before .before .before .before .before .walk-arguments .kept .1 .1 .1 .1 .0 ∙ simp length-set)
 
   walk-term-same-length-4 : walk-term-lts.Need-same-length-4 (walk-term-calls m) (walk-term-at m) walk-term.Post
   walk-term-same-length-4 c = search needs

@@ -1,133 +1,122 @@
--- Classes along the list: after k terms each of those has the class of its value. Assumes nothing.
+-- Classes along the list: after k terms each of those has its class, and the pairs are the halves of the hashes of their keys.
+-- Assumes nothing.
 use mathlib.Core.Path.{_≡_, refl, ap, sym, _∙_}
 use mathlib.Core.List.{List}
-use Prim.Native.Nat.{ℕ, _+_, _*_, _≤_, _<_}
+use Prim.Native.Nat.{ℕ, _+_, _*_, _/_, _%_, _≤_, _<_}
+use native.Mathlib.Nat.{not-suc-le-zero}
+use native.Mathlib.Numerals.{add-one}
 use native.Mathlib.Omega.{arith}
-use lib.ListN.{length, set}
+use borrow.Author.Count.{below-more}
+use lib.ListN.{length, set, length-set}
 use Rattle.model.specs.Limits.{maxArity}
-use Rattle.model.specs.Term.{val}
-use Rattle.theory.proofs.Soundness.Facts.{Formed}
-use Rattle.theory.proofs.Soundness.Terms.{acyclic-facts}
-use Rattle.layout.specs.Rows.{at, nodeOf, bookOf, bindingOf, boundOf}
-use Rattle.layout.proofs.Rows.{length-bookOf, getD-bookOf, getD-boundOf, good-formed}
-use Rattle.pairs.specs.Pairs.{placeOf}
-use Rattle.pairs.specs.Index.{noHeads, Indexed}
+use Rattle.layout.specs.Rows.{at, bookOf, boundOf}
+use Rattle.pairs.specs.Index.{noHeads, Indexed, Pushed}
+use Rattle.pairs.proofs.Laws.{Holds, place-le, place-least, kept-holds, kept-set, holds-set}
 use Rattle.pairs.proofs.Growth.{indexed-none}
 use Rattle.values.specs.Reading.{Listed}
-use Rattle.values.proofs.Settled.{settled-parts, Filled, filled-none, next-term, next-readable, filled-more, filled-all}
-use Rattle.names.specs.Trie.{symbols, Room}
-use Rattle.names.specs.Classes.{Classable, ClassFound, Scratch, SameClasses}
-use Rattle.names.specs.declared.Classed.{Classed}
-use Rattle.names.proofs.Trie.{place-tells}
-use Rattle.names.proofs.ClassOf.{classOf, IsClass, class-tells, class-value, is-class-stays}
+use Rattle.values.proofs.Settled.{Filled, filled-none, next-term, filled-more, filled-all}
+use Rattle.names.specs.Keys.{keyAt, hashFrom, Row}
+use Rattle.names.specs.Classes.{classOf, keyIn, Classable, Room, Scratch, SameClasses}
+use Rattle.names.proofs.ClassOf.{class-same, class-tells, class-lt, key-settled, row-of}
 
--- word w is the class of term t, by the first m pairs
-abbrev pub ClassAt : List ℕ → List ℕ → ℕ → List ℕ → List ℕ → ℕ → ℕ → ℕ → Type 0
-ClassAt rows bindings n ls rs m t w = IsClass (placeOf ls rs m) n m (val (bookOf rows n) (boundOf bindings n) t) w
+-- the hash of the key of term t
+abbrev pub hashIn : List ℕ → List ℕ → List ℕ → ℕ → ℕ → ℕ
+hashIn rows bindings list n t = hashFrom 0 (keyIn rows bindings list n t)
 
--- After k terms: their classes, and the pairs of all their arguments.
-pub record Classifying (rows bindings list : List ℕ) (n : ℕ) (classes₀ ls₀ rs₀ next₀ : List ℕ) (classes ls rs heads next : List ℕ) (m k : ℕ) : Type 0 where
+-- the pair at place i holds the halves of a hash
+abbrev Halves : List ℕ → List ℕ → ℕ → ℕ → Type 0
+Halves ls rs i h = Holds ls rs i (h / 4294967296) (h % 4294967296)
+
+-- After k terms: their classes, and the pairs of their hashes.
+pub record Classifying (rows bindings list : List ℕ) (n : ℕ) (classes₀ ls₀ rs₀ next₀ classes ls rs heads next : List ℕ) (k : ℕ) : Type 0 where
   pub room : Room ls₀ rs₀ next₀ (maxArity * n)
-  pub words-fit : n + symbols + maxArity * n ≤ 4294967296
   pub left-size : length ls ≡ length ls₀
   pub right-size : length rs ≡ length rs₀
   pub next-size : length next ≡ length next₀
-  pub indexed : Indexed ls rs heads next m
-  pub few : m ≤ maxArity * k
-  pub filled : Filled rows bindings list n (ClassAt rows bindings n ls rs m) classes₀ classes k
+  pub indexed : Indexed ls rs heads next k
+  pub hashed : (i : ℕ) → i < k → Halves ls rs i (hashIn rows bindings list n (at list i))
+  pub filled : Filled rows bindings list n (λ t w. w ≡ classOf rows bindings list n t) classes₀ classes k
 
 module _ {rows bindings list : List ℕ} {n : ℕ} {classes₀ ls₀ rs₀ next₀ : List ℕ} where
   pub classifying-none : Listed rows bindings list n → {heads₀ : List ℕ} → Scratch ls₀ rs₀ heads₀ next₀ classes₀ n → {heads : List ℕ} → heads ≡ noHeads
-      → Classifying rows bindings list n classes₀ ls₀ rs₀ next₀ classes₀ ls₀ rs₀ heads next₀ 0 0
+      → Classifying rows bindings list n classes₀ ls₀ rs₀ next₀ classes₀ ls₀ rs₀ heads next₀ 0
   classifying-none listed scratch {heads} e =
       record {
         room = scratch .room;
-        words-fit = scratch .words-fit;
         left-size = refl;
         right-size = refl;
         next-size = refl;
         indexed = indexed-none ls₀ rs₀ heads next₀ e (scratch .left-words);
-        few = omega arith;
+        hashed = λ i l. absurd (not-suc-le-zero l);
         filled = filled-none listed (scratch .classes-fit);
       }
 
-  module _ {classes ls rs heads next : List ℕ} {m k : ℕ}
-      (h : Classifying rows bindings list n classes₀ ls₀ rs₀ next₀ classes ls rs heads next m k) where
-    formed : Formed (bookOf rows n) (boundOf bindings n)
-    formed = good-formed (h .filled .listed .good)
-
+  module _ {classes ls rs heads next : List ℕ} {k : ℕ}
+      (c : Classifying rows bindings list n classes₀ ls₀ rs₀ next₀ classes ls rs heads next k) where
     -- at the end the classes are those of the values
     pub classified : n ≤ k → SameClasses (bookOf rows n) (boundOf bindings n) classes n
     classified l =
         record {
-          same-value = λ t u p q e.
-              class-tells (placeOf ls rs m) n m (place-tells ls rs m) _ _ (class t p .known) (class u q .known)
-              (sym (class t p .is) ∙ (e ∙ class u q .is));
-          same-class = λ t u p q e. class t p .is ∙ (ap (classOf (placeOf ls rs m) n) e ∙ sym (class u q .is));
+          same-value = λ t u p q e. class-tells (c .filled .listed) t u p q (sym (class t p) ∙ (e ∙ class u q));
+          same-class = λ t u p q e. class t p ∙ (class-same (c .filled .listed) t u e ∙ sym (class u q));
+          terms = λ t p. rw (class t p) (class-lt (c .filled .listed) t p);
         }
       where
-        class : (t : ℕ) → t < n → ClassAt rows bindings n ls rs m t (at classes t)
-        class t p = filled-all (h .filled) l t p
+        class : (t : ℕ) → t < n → at classes t ≡ classOf rows bindings list n t
+        class = filled-all (c .filled) l
 
     module _ (l : k < n) where
-      t-term : at list k < length (bookOf rows n)
-      t-term = rw length-bookOf (next-term (h .filled) l)
+      -- the next term's row can be read, and there is room for its pair
+      pub next-row : Row rows (length classes) (at list k)
+      next-row = row-of (c .filled .listed) (length classes) (at list k) (next-term (c .filled) l) (omega (arith, c .filled .size, c .filled .fits))
 
-      -- what the next term's class asks
-      pub next-classable : Classable rows bindings classes ls rs heads next n (at list k) m
-      next-classable =
-          let room = h .room in
-          record {
-            readable = next-readable (h .filled) l;
-            small-symbol = rw (getD-bookOf rows n (at list k) (next-term (h .filled) l)) at (formed .small-symbol (at list k) t-term);
-            small-arity = rw (getD-bookOf rows n (at list k) (next-term (h .filled) l)) at (formed .small-arity (at list k) t-term);
-            indexed = h .indexed;
-            room =
-                record {
-                  lefts = omega (arith, room .lefts, h .left-size, h .few);
-                  rights = omega (arith, room .rights, h .right-size, h .few);
-                  links = omega (arith, room .links, h .next-size, h .few);
-                };
-            words-fit = omega (arith, h .words-fit, h .few);
-          }
+      pub next-room : (k < length ls) × (k < length rs) × (k < length next)
+      next-room = (
+        omega (arith, c .room .lefts, c .left-size),
+        omega (arith, c .room .rights, c .right-size),
+        omega (arith, c .room .links, c .next-size),
+      )
 
-      -- one term more
-      pub classifying-more : {ls′ rs′ heads′ next′ : List ℕ} {r : Classed} → ClassFound rows bindings classes ls rs next n (at list k) m ls′ rs′ heads′ next′ r
-          → Classifying rows bindings list n classes₀ ls₀ rs₀ next₀ (set classes (at list k) (r .number)) ls′ rs′ heads′ next′ (r .count) (k + 1)
-      classifying-more {ls′} {rs′} {heads′} {next′} {r} f =
-          record {
-            room = h .room;
-            words-fit = h .words-fit;
-            left-size = f .grown .left-size ∙ h .left-size;
-            right-size = f .grown .right-size ∙ h .right-size;
-            next-size = f .grown .next-size ∙ h .next-size;
-            indexed = f .grown .indexed;
-            few = omega (arith, f .few, h .few);
-            filled = filled-more again (r .number) l found;
-          }
-        where
-          -- the classes stay
-          stay : (t w : ℕ) → ClassAt rows bindings n ls rs m t w → ClassAt rows bindings n ls′ rs′ (r .count) t w
-          stay t w =
-              is-class-stays (placeOf ls rs m) n m (placeOf ls′ rs′ (r .count)) (r .count) (f .grown .longer) (f .grown .stays)
-              (val (bookOf rows n) (boundOf bindings n) t) w
+      key-same : keyAt rows classes (at list k) ≡ keyIn rows bindings list n (at list k)
+      key-same = key-settled (c .filled .listed) classes k l (c .filled .settled) k (omega arith)
 
-          again : Filled rows bindings list n (ClassAt rows bindings n ls′ rs′ (r .count)) classes₀ classes k
-          again =
-              let g = h .filled in
-              record {
-                listed = g .listed;
-                fits = g .fits;
-                within = g .within;
-                size = g .size;
-                behind = g .behind;
-                settled = λ i q. stay (at list i) (at classes (at list i)) (g .settled i q);
-              }
+      -- its pair is pushed
+      module _ {h : ℕ} (hash : h ≡ hashFrom 0 (keyAt rows classes (at list k))) {ls′ rs′ heads′ next′ : List ℕ} {r : ℕ}
+          (p : Pushed ls rs ls′ rs′ heads′ next′ k (h / 4294967296) (h % 4294967296) r) where
+        hash-is : h ≡ hashIn rows bindings list n (at list k)
+        hash-is = hash ∙ ap (hashFrom 0) key-same
 
-          found : ClassAt rows bindings n ls′ rs′ (r .count) (at list k) (r .number)
-          found =
-              class-value (placeOf ls′ rs′ (r .count)) n (r .count) (bookOf rows n) (boundOf bindings n) formed
-              (acyclic-facts (bookOf rows n) (boundOf bindings n) (h .filled .listed .no-cycle)) (length-bookOf rows n) (at classes) (at list k) t-term
-              (nodeOf rows (at list k)) (bindingOf bindings (at list k)) (getD-bookOf rows n (at list k) (next-term (h .filled) l))
-              (getD-boundOf bindings n (at list k) (next-term (h .filled) l))
-              (settled-parts (again .listed) (ClassAt rows bindings n ls′ rs′ (r .count)) classes k (again .settled) l) (f .present) (r .number) (f .is-class)
+        -- it has an earlier place where its key has
+        pub next-classable : Classable rows bindings classes list n k r
+        next-classable =
+            record {
+              listed = c .filled .listed;
+              classes-fit = omega (arith, c .filled .size, c .filled .fits);
+              within = l;
+              settled = c .filled .settled;
+              place-within = rw (p .place) (place-le ls rs k (h / 4294967296) (h % 4294967296));
+              no-key = λ e j q s.
+                  let same : hashIn rows bindings list n (at list j) ≡ h = sym (hash-is ∙ ap (hashFrom 0) s) in
+                  let low = place-least ls rs k (h / 4294967296) (h % 4294967296) j q (rw same at (c .hashed j q)) in
+                  omega (arith, low, p .place);
+            }
+
+        -- one term more
+        pub classifying-more : length next′ ≡ length next → {w : ℕ} → w ≡ classOf rows bindings list n (at list k)
+            → Classifying rows bindings list n classes₀ ls₀ rs₀ next₀ (set classes (at list k) w) ls′ rs′ heads′ next′ (k + 1)
+        classifying-more e {w} is =
+            record {
+              room = c .room;
+              left-size = ap length (p .left) ∙ length-set ls k (h / 4294967296) ∙ c .left-size;
+              right-size = ap length (p .right) ∙ length-set rs k (h % 4294967296) ∙ c .right-size;
+              next-size = e ∙ c .next-size;
+              indexed = rw add-one (p .indexed);
+              hashed = below-more _ k (λ i q. kept i q) last;
+              filled = filled-more (c .filled) w l is;
+            }
+          where
+            kept : (i : ℕ) → i < k → Halves ls′ rs′ i (hashIn rows bindings list n (at list i))
+            kept i q = rw (p .left, p .right) (kept-holds (kept-set ls rs k (h / 4294967296) (h % 4294967296)) i _ _ q (c .hashed i q))
+
+            last : Halves ls′ rs′ k (hashIn rows bindings list n (at list k))
+            last = rw (← hash-is, p .left, p .right) (holds-set ls rs k (h / 4294967296) (h % 4294967296) (next-room .0) (next-room .1))

@@ -1,5 +1,4 @@
-pub mod Trie
-pub mod ClassStep
+pub mod Keys
+pub mod Lowest
 pub mod ClassOf
 pub mod Classifying
-pub mod Lowest

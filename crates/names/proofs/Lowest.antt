@@ -1,39 +1,25 @@
--- The lowest term of each class: the first place of its class among the classes of all terms. Assumes nothing.
+-- The lowest term of each class. Assumes nothing.
 use mathlib.Core.Path.{_≡_, refl, ap, ap₂, sym, _∙_}
 use mathlib.Core.List.{List, _∷_, _++_, map}
-use mathlib.Core.Bool.{Bool, true, false}
+use mathlib.Core.Bool.{Bool}
 use mathlib.Core.Logic.{_⊎_, inl, inr}
-use Prim.Native.Nat.{ℕ, zero, suc, _+_, _*_, _≤_, _<_}
+use Prim.Native.Nat.{ℕ, zero, suc, _+_, _≤_, _<_}
 use native.Mathlib.Nat.{not-suc-le-zero, zero-add}
-use native.Mathlib.Numerals.{add-one}
 use native.Mathlib.Omega.{arith}
 use borrow.Author.Count.{below-more}
 use lib.ListN.{length, getD, drop, set, length-set}
 use lib.Seq.{getD-set-same, getD-set-other, drop-set-lt}
-use lib.Dec.{T, eqb, eqb→eq, eqb-refl}
-use Rattle.model.specs.Limits.{maxArity}
+use lib.Dec.{eqb, eqb→eq, eqb-refl}
 use Rattle.model.specs.Lists.{from}
 use Rattle.model.specs.Term.{Book, Bindings, eqTree, val, name}
-use Rattle.theory.proofs.Lists.Laws.{first-least, first-alike, length-from, getD-from}
-use Rattle.theory.proofs.Table.Search.{lt-or-le}
+use Rattle.theory.proofs.Lists.Laws.{same-test, first-least, first-alike, length-from, getD-from}
+use Rattle.theory.proofs.Table.Search.{lt-or-le, eq-or-not}
 use Rattle.theory.proofs.Values.Equations.{eqTree-eq, eqTree-refl}
 use Rattle.theory.proofs.Values.Ends.{lowest, lowest-holds}
 use Rattle.layout.specs.Rows.{at, bookOf, boundOf}
 use Rattle.layout.proofs.Rows.{length-bookOf}
-use Rattle.pairs.specs.Pairs.{placeOf}
-use Rattle.pairs.specs.Index.{noHeads, Indexed, Pushed}
-use Rattle.pairs.proofs.Laws.{Holds, place-le, place-holds, place-least, kept-holds, kept-set, holds-set}
-use Rattle.pairs.proofs.Growth.{indexed-none}
 use Rattle.values.proofs.Settled.{words-map}
-use Rattle.names.specs.Trie.{Room}
-use Rattle.names.specs.Classes.{Scratch, SameClasses, lowestSame}
-
--- tests that hold together are equal
-same-test : (a b : Bool) → (T a → T b) → (T b → T a) → a ≡ b
-same-test true true f g = refl
-same-test true false f g = absurd (f tt)
-same-test false true f g = absurd (g tt)
-same-test false false f g = refl
+use Rattle.names.specs.Classes.{Scratch, SameClasses, lowestSame, Seen, lower, own, Counted}
 
 -- functions that agree below i + n give the same for n numbers from i on
 map-from-same : (f g : ℕ → ℕ) (i n : ℕ) → ((t : ℕ) → t < i + n → f t ≡ g t) → map f (from i n) ≡ map g (from i n)
@@ -56,21 +42,6 @@ module _ (classes : List ℕ) (n t : ℕ) (t-term : t < n) where
   unfolding lowestSame same lowest
   lowest-class =
       eqb→eq (at classes (lowestSame classes n t)) (at classes t) (lowest-holds same n (omega (arith, lowest-least t t-term refl)))
-
-  -- the first place of t's class among the classes of the terms before it, or t
-  pub place-lowest : (ls rs : List ℕ) → ((i : ℕ) → i < t → Holds ls rs i (at classes i) 0)
-      → placeOf ls rs t (at classes t) 0 ≡ lowestSame classes n t
-  place-lowest ls rs h = omega (arith, up (lt-or-le (lowestSame classes n t) t), down (lt-or-le (placeOf ls rs t (at classes t) 0) t))
-    where
-      up : (lowestSame classes n t < t) ⊎ (t ≤ lowestSame classes n t) → placeOf ls rs t (at classes t) 0 ≤ lowestSame classes n t
-      up (inl l) = place-least ls rs t (at classes t) 0 (lowestSame classes n t) l (rw lowest-class at (h (lowestSame classes n t) l))
-      up (inr l) = omega (arith, place-le ls rs t (at classes t) 0)
-
-      down : (placeOf ls rs t (at classes t) 0 < t) ⊎ (t ≤ placeOf ls rs t (at classes t) 0) → lowestSame classes n t ≤ placeOf ls rs t (at classes t) 0
-      down (inl l) =
-          lowest-least (placeOf ls rs t (at classes t) 0) (omega arith)
-          (sym (h (placeOf ls rs t (at classes t) 0) l .left) ∙ place-holds ls rs t (at classes t) 0 l .left)
-      down (inr l) = omega (arith, lowest-least t t-term refl)
 
 -- the lowest term of each class is the name, where classes are those of the values
 pub lowest-names : (b : Book) (β : Bindings) (classes : List ℕ) (n : ℕ) → length b ≡ n → SameClasses b β classes n
@@ -113,82 +84,95 @@ scratch-kept s l r h x k =
       words-fit = s .words-fit;
     }
 
--- After t terms: the pairs of their classes, and their names.
-pub record Numbering (classes : List ℕ) (n : ℕ) (names₀ ls₀ rs₀ next₀ names ls rs heads next : List ℕ) (t : ℕ) : Type 0 where
-  pub room : Room ls₀ rs₀ next₀ (maxArity * n)
-  pub fits : n ≤ length names₀
+-- what finding the lowest terms asks, once the terms have their classes
+pub counted : {ls rs heads next classes names : List ℕ} {n : ℕ} → Scratch ls rs heads next classes n → n ≤ length names
+    → {b : Book} {β : Bindings} {ls′ classes′ : List ℕ} → SameClasses b β classes′ n → length ls′ ≡ length ls → length classes′ ≡ length classes
+    → Counted classes′ ls′ names n
+counted scratch fits same l k =
+    record {
+      classes-fit = omega (arith, scratch .classes-fit);
+      terms = same .terms;
+      firsts-fit = omega (arith, scratch .room .lefts);
+      names-fit = fits;
+    }
+
+-- After t terms: the lowest of the class of each, in the place of its class and as its name.
+pub record Numbering (classes : List ℕ) (n : ℕ) (firsts₀ names₀ firsts names : List ℕ) (t : ℕ) : Type 0 where
+  pub counted : Counted classes firsts₀ names₀ n
   pub within : t ≤ n
-  pub left-size : length ls ≡ length ls₀
-  pub right-size : length rs ≡ length rs₀
-  pub next-size : length next ≡ length next₀
+  pub first-size : length firsts ≡ length firsts₀
   pub name-size : length names ≡ length names₀
   pub behind : drop n names ≡ drop n names₀
-  pub indexed : Indexed ls rs heads next t
-  pub pairs : (i : ℕ) → i < t → Holds ls rs i (at classes i) 0
+  pub placed : (i : ℕ) → i < t → at firsts (at classes i) ≡ lowestSame classes n i
   pub named : (i : ℕ) → i < t → at names i ≡ lowestSame classes n i
 
-module _ {classes : List ℕ} {n : ℕ} {names₀ ls₀ rs₀ next₀ : List ℕ} where
-  pub numbering-none : {heads₀ : List ℕ} → Scratch ls₀ rs₀ heads₀ next₀ classes n → n ≤ length names₀ → {heads : List ℕ} → heads ≡ noHeads
-      → Numbering classes n names₀ ls₀ rs₀ next₀ names₀ ls₀ rs₀ heads next₀ 0
-  numbering-none scratch fits {heads} e =
+-- terms of one class have one lowest term
+lowest-same : (classes : List ℕ) (n t u : ℕ) → at classes t ≡ at classes u → lowestSame classes n t ≡ lowestSame classes n u
+unfolding lowestSame
+lowest-same classes n t u e = rw e
+
+module _ {classes : List ℕ} {n : ℕ} {firsts₀ names₀ : List ℕ} where
+  pub numbering-none : Counted classes firsts₀ names₀ n → Numbering classes n firsts₀ names₀ firsts₀ names₀ 0
+  numbering-none counted =
       record {
-        room = scratch .room;
-        fits = fits;
+        counted = counted;
         within = omega arith;
-        left-size = refl;
-        right-size = refl;
-        next-size = refl;
+        first-size = refl;
         name-size = refl;
         behind = refl;
-        indexed = indexed-none ls₀ rs₀ heads next₀ e (scratch .left-words);
-        pairs = λ i l. absurd (not-suc-le-zero l);
+        placed = λ i l. absurd (not-suc-le-zero l);
         named = λ i l. absurd (not-suc-le-zero l);
       }
 
-  module _ {names ls rs heads next : List ℕ} {t : ℕ} (h : Numbering classes n names₀ ls₀ rs₀ next₀ names ls rs heads next t) where
+  module _ {firsts names : List ℕ} {t : ℕ} (h : Numbering classes n firsts₀ names₀ firsts names t) where
     -- at the end every term has the lowest of its class
     pub numbered : n ≤ t → names ≡ map (lowestSame classes n) (from 0 n) ++ drop n names₀
     numbered l =
-        words-map (lowestSame classes n) n names names₀ (omega (arith, h .fits, h .name-size)) (h .behind) (λ i q. h .named i (omega arith))
+        words-map (lowestSame classes n) n names names₀ (omega (arith, h .counted .names-fit, h .name-size)) (h .behind)
+        (λ i q. h .named i (omega arith))
 
     module _ (l : t < n) where
-      -- there is room for the next pair and the next name
-      pub next-room : (t < length ls) × (t < length rs) × (t < length next)
-      next-room = (
-        omega (arith, h .room .lefts, h .left-size),
-        omega (arith, h .room .rights, h .right-size),
-        omega (arith, h .room .links, h .next-size),
+      -- the next term's class can be read, and its places written
+      pub next-fits : (t < length classes) × (at classes t < length firsts) × (t < length names)
+      next-fits = (
+        omega (arith, h .counted .classes-fit),
+        omega (arith, h .counted .terms t l, h .counted .firsts-fit, h .first-size),
+        omega (arith, h .counted .names-fit, h .name-size),
       )
 
-      pub next-name : t < length names
-      next-name = omega (arith, h .fits, h .name-size)
-
-      module _ {ls′ rs′ heads′ next′ : List ℕ} {r : ℕ} (p : Pushed ls rs ls′ rs′ heads′ next′ t (at classes t) 0 r) where
-        -- the place is a term
-        pub place-term : r ≤ t
-        place-term = omega (arith, p .place, place-le ls rs t (at classes t) 0)
+      module _ {r : ℕ} where
+        -- what was seen of its class, or the term itself, is the lowest
+        next-lowest : Seen classes (at firsts (at classes t)) t r → r ≡ lowestSame classes n t
+        next-lowest (lower p e q) =
+            q ∙ (sym (ap (at firsts) e) ∙ (h .placed (at firsts (at classes t)) p ∙ lowest-same classes n (at firsts (at classes t)) t e))
+        next-lowest (own f q) = q ∙ go (lt-or-le (lowestSame classes n t) t)
+          where
+            go : (lowestSame classes n t < t) ⊎ (t ≤ lowestSame classes n t) → t ≡ lowestSame classes n t
+            go (inl p) =
+                let e : at classes (lowestSame classes n t) ≡ at classes t = lowest-class classes n t l in
+                let is : at firsts (at classes t) ≡ lowestSame classes n t =
+                sym (ap (at firsts) e) ∙ (h .placed (lowestSame classes n t) p ∙ lowest-same classes n (lowestSame classes n t) t e) in
+                absurd (f (rw is p) (ap (at classes) is ∙ e))
+            go (inr p) = omega (arith, lowest-least classes n t l t l refl)
 
         -- one term more
-        pub numbering-more : length next′ ≡ length next
-            → Numbering classes n names₀ ls₀ rs₀ next₀ (set names t r) ls′ rs′ heads′ next′ (t + 1)
-        numbering-more e =
+        pub numbering-more : Seen classes (at firsts (at classes t)) t r
+            → Numbering classes n firsts₀ names₀ (set firsts (at classes t) r) (set names t r) (t + 1)
+        numbering-more s =
             record {
-              room = h .room;
-              fits = h .fits;
+              counted = h .counted;
               within = omega arith;
-              left-size = ap length (p .left) ∙ length-set ls t (at classes t) ∙ h .left-size;
-              right-size = ap length (p .right) ∙ length-set rs t 0 ∙ h .right-size;
-              next-size = e ∙ h .next-size;
+              first-size = length-set firsts (at classes t) r ∙ h .first-size;
               name-size = length-set names t r ∙ h .name-size;
               behind = drop-set-lt n names t r l ∙ h .behind;
-              indexed = rw add-one (p .indexed);
-              pairs = below-more _ t (λ i q. kept i q) last;
-              named = below-more _ t (λ i q. getD-set-other names t i r 0 (λ s. omega arith) ∙ h .named i q)
-                  (getD-set-same names t r 0 next-name ∙ p .place ∙ place-lowest classes n t l ls rs (h .pairs));
+              placed = below-more _ t (λ i q. kept i q (eq-or-not (at classes i) (at classes t)))
+                  (getD-set-same firsts (at classes t) r 0 (next-fits .1) ∙ next-lowest s);
+              named = below-more _ t (λ i q. getD-set-other names t i r 0 (λ e. omega arith) ∙ h .named i q)
+                  (getD-set-same names t r 0 (next-fits .2) ∙ next-lowest s);
             }
           where
-            kept : (i : ℕ) → i < t → Holds ls′ rs′ i (at classes i) 0
-            kept i q = rw (p .left, p .right) (kept-holds (kept-set ls rs t (at classes t) 0) i (at classes i) 0 q (h .pairs i q))
-
-            last : Holds ls′ rs′ t (at classes t) 0
-            last = rw (p .left, p .right) (holds-set ls rs t (at classes t) 0 (next-room .0) (next-room .1))
+            kept : (i : ℕ) → i < t → (at classes i ≡ at classes t) ⊎ (at classes i ≡ at classes t → ⊥)
+                → at (set firsts (at classes t) r) (at classes i) ≡ lowestSame classes n i
+            kept i q (inl e) =
+                rw e (getD-set-same firsts (at classes t) r 0 (next-fits .1)) ∙ (next-lowest s ∙ sym (lowest-same classes n i t e))
+            kept i q (inr e) = getD-set-other firsts (at classes t) (at classes i) r 0 e ∙ h .placed i q

@@ -1,48 +1,45 @@
 -- Classes of terms: numbers that are equal exactly where the values are. Assumes nothing: these are definitions.
 use mathlib.Core.Path.{_≡_}
-use mathlib.Core.List.{List, map}
-use mathlib.Core.Option.{Option, none, some}
-use Prim.Native.Nat.{ℕ, _+_, _*_, _≤_, _<_}
-use lib.ListN.{length}
+use mathlib.Core.List.{List}
+use Prim.Native.Nat.{ℕ, suc, _+_, _*_, _≤_, _<_}
+use lib.ListN.{length, take}
 use lib.Dec.{eqb}
 use Rattle.model.specs.Lists.{first, from}
 use Rattle.model.specs.Limits.{maxArity, maxSymbol}
-use Rattle.model.specs.Term.{Node, var, app, symbol, arguments, Book, Bindings, val}
-use Rattle.layout.specs.Rows.{at, nodeOf, bindingOf}
-use Rattle.pairs.specs.Pairs.{placeOf}
-use Rattle.pairs.specs.Index.{buckets, Indexed}
-use Rattle.values.specs.Reading.{Readable}
-use Rattle.names.specs.Trie.{symbols, trieNode, Present, Room, Grown}
-use Rattle.names.specs.declared.Classed.{Classed}
+use Rattle.model.specs.Term.{Book, Bindings, eqTree, val}
+use Rattle.layout.specs.Rows.{at, nodeOf, bookOf, boundOf}
+use Rattle.pairs.specs.Index.{buckets}
+use Rattle.values.specs.Reading.{Listed}
+use Rattle.names.specs.Keys.{keyOf}
 
-module _ (place : ℕ → ℕ → ℕ) where
-  -- The class of a term of n, where `below` gives the classes one step down: a free variable is its own class, a bound one has
-  -- its term's, and an application's is the node of its symbol over its arguments' classes, behind the terms.
-  unfoldable pub classStep : ℕ → (ℕ → ℕ) → ℕ → Node → Option ℕ → ℕ
-  classStep n below t var none = t
-  classStep n below t var (some u) = below u
-  classStep n below t (app s args) bound = n + trieNode place s (map below args)
+-- The class of term t: the first of the n terms along the list with its value.
+unfoldable pub classOf : List ℕ → List ℕ → List ℕ → ℕ → ℕ → ℕ
+classOf rows bindings list n t =
+    let value = val (bookOf rows n) (boundOf bindings n) in at list (first (λ u. eqTree (value u) (value t)) (take n list))
 
-  -- For an application, the pairs on the way to its node are among the first m.
-  unfoldable pub StepPresent : ℕ → (ℕ → ℕ) → Node → Type 0
-  StepPresent m below var = Unit {0}
-  StepPresent m below (app s args) = Present place m s (map below args)
+-- The key of term t by these classes.
+abbrev pub keyIn : List ℕ → List ℕ → List ℕ → ℕ → ℕ → List ℕ
+keyIn rows bindings list n t = keyOf (classOf rows bindings list n) (nodeOf rows t)
 
--- What is asked to find the class of term t, with m pairs.
-pub record Classable (rows words classes ls rs heads next : List ℕ) (n t m : ℕ) : Type 0 where
-  pub readable : Readable rows words t (length classes)
-  pub small-symbol : symbol (nodeOf rows t) ≤ maxSymbol
-  pub small-arity : length (arguments (nodeOf rows t)) ≤ maxArity
-  pub indexed : Indexed ls rs heads next m
-  pub room : Room ls rs next (m + maxArity)
-  pub words-fit : n + symbols + m + maxArity ≤ 4294967296
+-- What is asked to find the class of the term at place k: the classes of those before it, and a place that is k only where none
+-- of those has its key.
+pub record Classable (rows bindings classes list : List ℕ) (n k place : ℕ) : Type 0 where
+  pub listed : Listed rows bindings list n
+  pub classes-fit : n ≤ length classes
+  pub within : k < n
+  pub settled : (i : ℕ) → i < k → at classes (at list i) ≡ classOf rows bindings list n (at list i)
+  pub place-within : place ≤ k
+  pub no-key : place ≡ k → (j : ℕ) → j < k → keyIn rows bindings list n (at list k) ≡ keyIn rows bindings list n (at list j) → ⊥
 
--- The class of term t and the number of pairs after it.
-pub record ClassFound (rows words classes ls rs next : List ℕ) (n t m : ℕ) (ls′ rs′ heads′ next′ : List ℕ) (r : Classed) : Type 0 where
-  pub grown : Grown ls rs next m ls′ rs′ heads′ next′ (r .count)
-  pub few : r .count ≤ m + maxArity
-  pub is-class : r .number ≡ classStep (placeOf ls′ rs′ (r .count)) n (at classes) t (nodeOf rows t) (bindingOf words t)
-  pub present : StepPresent (placeOf ls′ rs′ (r .count)) (r .count) (at classes) (nodeOf rows t)
+-- How many symbols there are.
+abbrev pub symbols : ℕ
+symbols = suc maxSymbol
+
+-- There is room for m pairs.
+pub record Room (ls rs next : List ℕ) (m : ℕ) : Type 0 where
+  pub lefts : m ≤ length ls
+  pub rights : m ≤ length rs
+  pub links : m ≤ length next
 
 -- The slices are long enough for n terms with a pair for each argument, and their numbers are words.
 pub record Scratch (ls rs heads next classes : List ℕ) (n : ℕ) : Type 0 where
@@ -52,11 +49,24 @@ pub record Scratch (ls rs heads next classes : List ℕ) (n : ℕ) : Type 0 wher
   pub classes-fit : n ≤ length classes
   pub words-fit : n + symbols + maxArity * n ≤ 4294967296
 
--- Terms have one class exactly where they have one value.
+-- Terms have one class exactly where they have one value, and a class is a term.
 pub record SameClasses (b : Book) (β : Bindings) (classes : List ℕ) (n : ℕ) : Type 0 where
   pub same-value : (t u : ℕ) → t < n → u < n → at classes t ≡ at classes u → val b β t ≡ val b β u
   pub same-class : (t u : ℕ) → t < n → u < n → val b β t ≡ val b β u → at classes t ≡ at classes u
+  pub terms : (t : ℕ) → t < n → at classes t < n
 
 -- The lowest of n terms with the class of t.
 unfoldable pub lowestSame : List ℕ → ℕ → ℕ → ℕ
 lowestSame classes n t = first (λ u. eqb (at classes u) (at classes t)) (from 0 n)
+
+-- Number r is `seen` where that is a term below t with its class, and else t.
+pub data Seen (classes : List ℕ) (seen t r : ℕ) : Type 0 where
+  lower : seen < t → at classes seen ≡ at classes t → r ≡ seen → Seen classes seen t r
+  own : (seen < t → at classes seen ≡ at classes t → ⊥) → r ≡ t → Seen classes seen t r
+
+-- What is asked to find it: classes are below n, and there is a place for each class and each name.
+pub record Counted (classes firsts names : List ℕ) (n : ℕ) : Type 0 where
+  pub classes-fit : n ≤ length classes
+  pub terms : (t : ℕ) → t < n → at classes t < n
+  pub firsts-fit : n ≤ length firsts
+  pub names-fit : n ≤ length names

@@ -1,2 +1,2 @@
-pub mod Trie
+pub mod Keys
 pub mod Classes

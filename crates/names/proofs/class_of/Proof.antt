@@ -1,147 +1,101 @@
--- `names::class_of` meets its contract: at each return the words that were read say which case of a step holds. Assumes nothing.
-use Prim.Native.Nat.{_<_}
+-- `names::class_of` meets its contract: at each return the words that were read say which case of a class holds. Assumes nothing.
 use native.Mathlib.Omega.{arith}
-use denote.Ref.{now}
-use Rattle.layout.specs.Rows.{at}
-use Rattle.values.proofs.Reading.{bound-below}
-use Rattle.names.proofs.ClassStep.{node-asks, class-word, class-app, class-free, class-bound}
 use borrow.Author.Needs.{needs}
+use Rattle.values.proofs.Reading.{bound-below}
+use Rattle.values.proofs.Settled.{list-fits}
+use Rattle.names.proofs.ClassOf.{t-lt, t-readable, earlier-rows, earlier-place, class-free, class-bound, class-new, old-place, class-old}
 use Rattle.names.proofs.class_of.Statement.{statement}
 use Rattle.names.proofs.class_of.Tie as tie
 
--- the start from the first read, and the call from the return behind it
-abbrev start : tie.After-shared-slice-known4 → tie.Start
-start c = c .before .before .before .before .before .before .before .before
+mul-t : tie.Need-mul-t
+mul-t c = omega (arith, list-fits (c .before .before .before .before .pre .listed), c .before .before .before .before .pre .within)
 
-abbrev found : tie.After-slice-known8 → tie.After-node-of
-found c = c .before .before .before .before .before .before .before .before
+shared-slice-read-t : tie.Need-shared-slice-read-t
+shared-slice-read-t c = omega (arith, list-fits (c .before .before .before .before .before .pre .listed), c .before .before .before .before .before .pre .within)
 
--- the word of a binding
-bound-word : (c : tie.Else2) → at (now (start (c .before .before .before) .args .bindings)) (start (c .before .before .before) .args .t) < 4294967296
-bound-word c = omega (arith, c .before .shared-slice-known6 .given (start (c .before .before .before) .args .t))
+cast-i : tie.Need-cast-i
+cast-i c = omega (arith, t-lt (c .before .before .before .before .before .pre))
 
-mul-row : tie.Need-mul-row
-mul-row c = search needs
+mul-if1 : tie.Need-mul-if1
+mul-if1 c = omega (arith, t-readable (c .before .before .before .before .before .pre) .row-fits)
 
-mul-symbol : tie.Need-mul-symbol
-mul-symbol c = search needs
+mul-if1-2 : tie.Need-mul-if1-2
+mul-if1-2 c = omega (arith, t-readable (c .before .before .before .before .before .pre) .row-fits)
 
-shared-slice-read-symbol : tie.Need-shared-slice-read-symbol
-shared-slice-read-symbol c = search needs
+shared-slice-read-if1 : tie.Need-shared-slice-read-if1
+shared-slice-read-if1 c = omega (arith, t-readable (c .before .before .before .before .before .before .pre) .row-fits)
 
-add-first : tie.Need-add-first
-add-first c = search needs
-
-add-arity : tie.Need-add-arity
-add-arity c = search needs
-
-mul-arity : tie.Need-mul-arity
-mul-arity c = search needs
-
-shared-slice-read-arity : tie.Need-shared-slice-read-arity
-shared-slice-read-arity c = search needs
-
-cast-arity : tie.Need-cast-arity
-cast-arity c = search needs
-
-add-end : tie.Need-add-end
-add-end c = search needs
-
-mul-args : tie.Need-mul-args
-mul-args c = search needs
-
-sub-args : tie.Need-sub-args
-sub-args c = search needs
-
-part-args-start : tie.Need-part-args-start
-part-args-start c = search needs
-
-part-args-end : tie.Need-part-args-end
-part-args-end c = search needs
-
-sub-node-of : tie.Need-sub-node-of
-sub-node-of c = search needs
-
-node-of-requires : tie.Need-node-of-requires
-node-of-requires c κs = node-asks (start (c .before .before .before .before .before .before .before) .pre) (c .before .before .before .before .before .before .if1 .taken)
-
-add-t28 : tie.Need-add-t28
-add-t28 c =
-    let test = found c .before .before .before .before .before .before .before in omega (arith, class-word (start (test .before) .pre) (test .if1 .taken) (found c .node-of .ensures))
-
-add-t26 : tie.Need-add-t26
-add-t26 c = search needs
-
-same-length : tie.Need-same-length
-same-length c = search needs
-
-same-length-2 : tie.Need-same-length-2
-same-length-2 c = search needs
-
-same-length-3 : tie.Need-same-length-3
-same-length-3 c = search needs
-
-same-length-4 : tie.Need-same-length-4
-same-length-4 c = search needs
+earlier-requires : tie.Need-earlier-requires
+earlier-requires c κs = (earlier-rows (c .before .before .before .before .before .before .before .pre), (c .if1 .taken, earlier-place (c .before .before .before .before .before .before .before .pre)))
 
 returns : tie.Need-returns
-returns c = let test = found c .before .before .before .before .before .before .before in class-app (start (test .before) .pre) (test .if1 .taken) (found c .node-of .ensures)
+returns c = class-new (c .before .before .before .before .before .before .before .before .before .pre) (c .before .before .if1 .taken) (c .before .earlier .ensures) (c .if2 .taken)
 
-mul-bound : tie.Need-mul-bound
-mul-bound c = search needs
+mul-u : tie.Need-mul-u
+mul-u c = omega (arith, old-place (c .before .before .before .before .before .before .before .before .before .pre) (c .before .before .if1 .taken) (c .before .earlier .ensures) (c .if2 .left) .1)
 
-shared-slice-read-bound : tie.Need-shared-slice-read-bound
-shared-slice-read-bound c = search needs
+shared-slice-read-u : tie.Need-shared-slice-read-u
+shared-slice-read-u c = old-place (c .before .before .before .before .before .before .before .before .before .before .pre) (c .before .before .before .if1 .taken) (c .before .before .earlier .ensures) (c .before .if2 .left) .1
+
+cast-u : tie.Need-cast-u
+cast-u c = omega (arith, old-place (c .before .before .before .before .before .before .before .before .before .before .pre) (c .before .before .before .if1 .taken) (c .before .before .earlier .ensures) (c .before .if2 .left) .2)
+
+mul-result : tie.Need-mul-result
+mul-result c = omega (arith, old-place (c .before .before .before .before .before .before .before .before .before .before .pre) (c .before .before .before .if1 .taken) (c .before .before .earlier .ensures) (c .before .if2 .left) .2)
+
+shared-slice-read-result : tie.Need-shared-slice-read-result
+shared-slice-read-result c = old-place (c .before .before .before .before .before .before .before .before .before .before .before .pre) (c .before .before .before .before .if1 .taken) (c .before .before .before .earlier .ensures) (c .before .before .if2 .left) .2
 
 returns-2 : tie.Need-returns-2
-returns-2 c = class-free (start (c .before .before .before) .pre) (c .before .before .if1 .left) (c .if2 .taken)
+returns-2 c = class-old (c .before .before .before .before .before .before .before .before .before .before .before .pre) (c .before .before .before .before .if1 .taken) (c .before .before .before .earlier .ensures) (c .before .before .if2 .left)
 
-sub-number : tie.Need-sub-number
-sub-number c = search needs
+mul-bound : tie.Need-mul-bound
+mul-bound c = omega (arith, t-readable (c .before .before .before .before .before .before .before .pre) .word-fits)
 
-cast-number : tie.Need-cast-number
-cast-number c = omega (arith, bound-word c)
-
-mul-number : tie.Need-mul-number
-mul-number c = omega (arith, bound-word c)
-
-shared-slice-read-number : tie.Need-shared-slice-read-number
-shared-slice-read-number c = bound-below _ _ _ _ (start (c .before .before .before .before) .pre .readable) (c .before .before .before .if1 .left) (c .before .if2 .left)
+shared-slice-read-bound : tie.Need-shared-slice-read-bound
+shared-slice-read-bound c = t-readable (c .before .before .before .before .before .before .before .before .pre) .word-fits
 
 returns-3 : tie.Need-returns-3
-returns-3 c = class-bound (start (c .before .before .before .before) .pre) (c .before .before .before .if1 .left) (c .before .if2 .left)
+returns-3 c = class-free (c .before .before .before .before .before .before .before .before .before .pre) (c .before .before .if1 .left) (c .if3 .taken)
+
+sub-result : tie.Need-sub-result
+sub-result c = search needs
+
+cast-result : tie.Need-cast-result
+cast-result c = omega (arith, bound-below _ _ _ _ (t-readable (c .before .before .before .before .before .before .before .before .before .pre)) (c .before .before .if1 .left) (c .if3 .left))
+
+mul-result-2 : tie.Need-mul-result-2
+mul-result-2 c = omega (arith, bound-below _ _ _ _ (t-readable (c .before .before .before .before .before .before .before .before .before .pre)) (c .before .before .if1 .left) (c .if3 .left))
+
+shared-slice-read-result-2 : tie.Need-shared-slice-read-result-2
+shared-slice-read-result-2 c = bound-below _ _ _ _ (t-readable (c .before .before .before .before .before .before .before .before .before .before .pre)) (c .before .before .before .if1 .left) (c .before .if3 .left)
+
+returns-4 : tie.Need-returns-4
+returns-4 c = class-bound (c .before .before .before .before .before .before .before .before .before .before .pre) (c .before .before .before .if1 .left) (c .before .if3 .left)
 
 pub class-of-spec : {M : Type 1} → statement M
 class-of-spec =
     tie.close
     (tie.spec
-    mul-row
-    mul-symbol
-    shared-slice-read-symbol
-    add-first
-    add-arity
-    mul-arity
-    shared-slice-read-arity
-    cast-arity
-    add-end
-    mul-args
-    sub-args
-    part-args-start
-    part-args-end
-    sub-node-of
-    node-of-requires
-    add-t28
-    add-t26
-    same-length
-    same-length-2
-    same-length-3
-    same-length-4
+    mul-t
+    shared-slice-read-t
+    cast-i
+    mul-if1
+    mul-if1-2
+    shared-slice-read-if1
+    earlier-requires
     returns
+    mul-u
+    shared-slice-read-u
+    cast-u
+    mul-result
+    shared-slice-read-result
+    returns-2
     mul-bound
     shared-slice-read-bound
-    returns-2
-    sub-number
-    cast-number
-    mul-number
-    shared-slice-read-number
-    returns-3)
+    returns-3
+    sub-result
+    cast-result
+    mul-result-2
+    shared-slice-read-result-2
+    returns-4)

@@ -1,72 +1,67 @@
--- `names::lowest_of_class` meets its contract: after `t` terms the pairs are those of their classes, and each has the lowest term
--- of its class. The measure is the terms that are left. Assumes nothing.
+-- `names::lowest_of_class` meets its contract: after `t` terms each has the lowest of its class, which stands at the place of the
+-- class too. The measure is the terms that are left. Assumes nothing.
 use Prim.Native.Nat.{_-_}
 use native.Mathlib.Omega.{arith}
-use Rattle.names.proofs.Lowest.{Numbering, numbering-none, next-room, next-name, place-term, numbering-more, numbered}
+use Rattle.names.proofs.Lowest.{Numbering, numbering-none, next-fits, numbering-more, numbered}
 use Rattle.names.proofs.lowest_of_class.Statement.{statement}
 use Rattle.names.proofs.lowest_of_class.Tie as tie
 
 abbrev Inv-loop : tie.InvT-loop
-Inv-loop lefts₀ rights₀ heads₀ next₀ classes n names₀ t₀ lefts rights heads next names t =
-    Numbering classes n names₀ lefts₀ rights₀ next₀ names lefts rights heads next t
+Inv-loop classes n firsts₀ names₀ t₀ firsts names t = Numbering classes n firsts₀ names₀ firsts names t
 
 abbrev μ-loop : tie.MeasureT-loop
-μ-loop lefts₀ rights₀ heads₀ next₀ classes n names₀ t₀ lefts rights heads next names t = n - t
-
--- the loop's test from the turn's end
-abbrev turn : tie.After-slice-known10 Inv-loop μ-loop → tie.In-loop Inv-loop μ-loop
-turn c = c .before .before .before .before .before .before .before .before .before .before .before .before .before .before
-
-clear-requires : tie.Need-clear-requires Inv-loop μ-loop
-clear-requires c κs = c .before .before .before .before .before .before .before .pre .0 .all-heads
+μ-loop classes n firsts₀ names₀ t₀ firsts names t = n - t
 
 loop-holds : tie.Need-loop-holds Inv-loop μ-loop
-loop-holds c = let pre = c .before .before .before .before .before .before .before .before .before .before .pre in numbering-none (pre .0) (pre .1) (c .before .before .clear .ensures)
+loop-holds c = numbering-none (c .before .before .before .pre)
 
-mul-push : tie.Need-mul-push Inv-loop μ-loop
-mul-push c = omega arith
+cast-i : tie.Need-cast-i Inv-loop μ-loop
+cast-i c = omega arith
 
-shared-slice-read-push : tie.Need-shared-slice-read-push Inv-loop μ-loop
-shared-slice-read-push c = omega (arith, c .before .before .before .before .before .before .before .before .before .before .before .before .before .before .before .before .before .pre .0 .classes-fit, c .before .before .before .before .before .loop-test .taken)
+mul-class : tie.Need-mul-class Inv-loop μ-loop
+mul-class c = omega arith
 
-push-requires : tie.Need-push-requires Inv-loop μ-loop
-push-requires c κs = (c .before .before .before .before .before .before .loop .inv .indexed, next-room (c .before .before .before .before .before .before .loop .inv) (c .before .before .before .before .before .loop-test .taken))
+shared-slice-read-class : tie.Need-shared-slice-read-class Inv-loop μ-loop
+shared-slice-read-class c = next-fits (c .before .before .loop .inv) (c .before .loop-test .taken) .0
 
-cast-names : tie.Need-cast-names Inv-loop μ-loop
-cast-names c =
-    omega (arith, place-term (turn c .before .loop .inv) (turn c .loop-test .taken) (c .before .before .before .before .before .before .before .before .push .ensures), turn c .loop-test .taken)
+cast-class : tie.Need-cast-class Inv-loop μ-loop
+cast-class c = omega (arith, c .shared-slice-known2 .given (c .before .before .loop .t))
+
+mul-seen-or : tie.Need-mul-seen-or Inv-loop μ-loop
+mul-seen-or c = omega (arith, c .shared-slice-known2 .given (c .before .before .loop .t))
+
+slice-read-seen-or : tie.Need-slice-read-seen-or Inv-loop μ-loop
+slice-read-seen-or c = next-fits (c .before .before .before .loop .inv) (c .before .before .loop-test .taken) .1
+
+seen-or-requires : tie.Need-seen-or-requires Inv-loop μ-loop
+seen-or-requires c κs = next-fits (c .before .before .before .loop .inv) (c .before .before .loop-test .taken) .0
+
+mul-firsts : tie.Need-mul-firsts Inv-loop μ-loop
+mul-firsts c = omega (arith, c .before .before .shared-slice-known2 .given (c .before .before .before .before .loop .t))
+
+slice-write-firsts : tie.Need-slice-write-firsts Inv-loop μ-loop
+slice-write-firsts c = next-fits (c .before .before .before .before .loop .inv) (c .before .before .before .loop-test .taken) .1
 
 mul-names : tie.Need-mul-names Inv-loop μ-loop
-mul-names c = omega (arith, turn c .loop-test .taken)
+mul-names c = omega arith
 
 slice-write-names : tie.Need-slice-write-names Inv-loop μ-loop
-slice-write-names c = next-name (turn c .before .loop .inv) (turn c .loop-test .taken)
+slice-write-names c = next-fits (c .before .before .before .before .loop .inv) (c .before .before .before .loop-test .taken) .2
 
 add-t : tie.Need-add-t Inv-loop μ-loop
-add-t c = omega (arith, turn c .loop-test .taken)
+add-t c = omega arith
 
 loop-less : tie.Need-loop-less Inv-loop μ-loop
-loop-less c = omega (arith, turn c .loop-test .taken)
+loop-less c = omega arith
 
 loop-again : tie.Need-loop-again Inv-loop μ-loop
-loop-again c =
-    let called = c .before .before .before .before .before .before .before .before .push in
-    numbering-more (turn c .before .loop .inv) (turn c .loop-test .taken) (called .ensures) (called .kept .1 .1 .1 .0)
+loop-again c = numbering-more (c .before .before .before .before .loop .inv) (c .before .before .before .loop-test .taken) (c .seen-or .ensures)
 
 same-length : tie.Need-same-length Inv-loop μ-loop
-same-length c = c .before .loop .inv .left-size
+same-length c = c .before .loop .inv .first-size
 
 same-length-2 : tie.Need-same-length-2 Inv-loop μ-loop
-same-length-2 c = c .before .loop .inv .right-size
-
-same-length-3 : tie.Need-same-length-3 Inv-loop μ-loop
-same-length-3 c = omega (arith, c .before .loop .inv .indexed .all-heads, c .before .before .before .before .before .before .before .before .before .before .before .before .pre .0 .all-heads)
-
-same-length-4 : tie.Need-same-length-4 Inv-loop μ-loop
-same-length-4 c = c .before .loop .inv .next-size
-
-same-length-5 : tie.Need-same-length-5 Inv-loop μ-loop
-same-length-5 c = c .before .loop .inv .name-size
+same-length-2 c = c .before .loop .inv .name-size
 
 returns : tie.Need-returns Inv-loop μ-loop
 returns c = numbered (c .before .loop .inv) (c .loop-test .left)
@@ -77,12 +72,16 @@ lowest-of-class-spec =
     (tie.spec
     Inv-loop
     μ-loop
-    clear-requires
     loop-holds
-    mul-push
-    shared-slice-read-push
-    push-requires
-    cast-names
+    cast-i
+    mul-class
+    shared-slice-read-class
+    cast-class
+    mul-seen-or
+    slice-read-seen-or
+    seen-or-requires
+    mul-firsts
+    slice-write-firsts
     mul-names
     slice-write-names
     add-t
@@ -90,7 +89,4 @@ lowest-of-class-spec =
     loop-again
     same-length
     same-length-2
-    same-length-3
-    same-length-4
-    same-length-5
     returns)

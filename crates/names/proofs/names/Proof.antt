@@ -1,6 +1,6 @@
 -- `names::names` meets its contract: the classes are those of the values, so the lowest term of a class is the name. Assumes
 -- nothing.
-use Rattle.names.proofs.Lowest.{names-found, scratch-kept}
+use Rattle.names.proofs.Lowest.{names-found, counted}
 use borrow.Author.Needs.{needs}
 use Rattle.names.proofs.names.Statement.{statement}
 use Rattle.names.proofs.names.Tie as tie
@@ -10,12 +10,10 @@ classify-requires c κs = search needs
 
 lowest-of-class-requires : tie.Need-lowest-of-class-requires
 lowest-of-class-requires c κs =
-    let classified = c .before .before .before .before .before .before .before .before .before .before .before .before .before .before .before .before in
-    let start = classified .before .before .before .before .before .before .before .before .before .before .before .before .before .before .before in
-    let slices = classified .classify .kept .1 .1 .1 .1 in (
-      scratch-kept (start .pre .1 .0) (slices .0) (slices .1 .0) (slices .1 .1 .0) (slices .1 .1 .1 .0) (slices .1 .1 .1 .1 .0),
-      start .pre .1 .1,
-    )
+    let done = c .before .before .before .before .before .before .before .before .before .before .before .before .before in
+    let start = c .before .before .before .before .before .before .before .before .before .before .before .before .before .before .before .before .before .before .before .before .before .before .before .before .before .before .before .before in
+    let slices = done .classify .kept .1 .1 .1 .1 in
+    counted (start .pre .1 .0) (start .pre .1 .1) (done .classify .ensures) (slices .0) (slices .1 .1 .1 .1 .0)
 
 same-length : tie.Need-same-length
 same-length c = search needs
@@ -36,9 +34,7 @@ same-length-6 : tie.Need-same-length-6
 same-length-6 c = search needs
 
 returns : tie.Need-returns
-returns c =
-    let found = c .before .before .before .before .before .before .before .before .before .before in
-    names-found _ _ _ _ _ _ (found .before .before .before .before .before .before .before .before .before .before .before .before .before .before .before .before .before .classify .ensures) (found .lowest-of-class .ensures)
+returns c = names-found _ _ _ _ _ _ (c .before .before .before .before .before .before .before .before .before .before .before .before .before .before .before .before .before .before .classify .ensures) (c .before .before .before .before .lowest-of-class .ensures)
 
 pub names-spec : {M : Type 1} → statement M
 names-spec =

@@ -1,0 +1,30 @@
+-- `names::mix` meets its contract: the sum fits a word of eight bytes. Assumes nothing.
+use mathlib.Core.Path.{refl}
+use native.Mathlib.Omega.{arith}
+use borrow.Author.Needs.{needs}
+use Rattle.names.specs.Keys.{mixed}
+use Rattle.names.proofs.Keys.{mix-fits}
+use Rattle.names.proofs.mix.Statement.{statement}
+use Rattle.names.proofs.mix.Tie as tie
+
+mul-result : tie.Need-mul-result
+mul-result c = search needs
+
+add-result : tie.Need-add-result
+add-result c = record { fits = mix-fits (c .args .h) (c .args .c) (omega arith) (omega arith) .0 }
+
+add-result-2 : tie.Need-add-result-2
+add-result-2 c = record { fits = mix-fits (c .args .h) (c .args .c) (omega arith) (omega arith) .1 }
+
+returns : tie.Need-returns
+unfolding mixed
+returns c = refl
+
+pub mix-spec : {M : Type 1} → statement M
+mix-spec =
+    tie.close
+    (tie.spec
+    mul-result
+    add-result
+    add-result-2
+    returns)

@@ -24,7 +24,8 @@ use Rattle.values.specs.Reading.{Listed}
 use Rattle.names.proofs.Lowest.{scratch-kept}
 use Rattle.sound.proofs.Tests.{row-facts}
 use Rattle.entries.proofs.Places.{room-kept}
-use Rattle.state.proofs.Rooms.{fewer-terms, fewer-entries}
+use Rattle.valued.proofs.Rooms.{fewer-terms}
+use Rattle.state.proofs.Rooms.{fewer-entries}
 use Rattle.state.proofs.Uses.{ready-facts, ready-holds}
 use Rattle.table.specs.Stands.{HoldsTable}
 use Rattle.steps.specs.Stepped.{after, Leaves, Gives}

@@ -12,7 +12,7 @@ use Rattle.layout.proofs.Rows.{length-bookOf, length-tableOf}
 use Rattle.area.specs.declared.Header.{Header}
 use Rattle.entries.specs.Known.{Room}
 use Rattle.entries.proofs.Places.{room-kept}
-use Rattle.state.specs.Ready.{Valued}
+use Rattle.valued.specs.Valued.{Valued}
 use Rattle.table.specs.Stands.{Whatever}
 use Rattle.table.proofs.Sizes.{SameSizes}
 use Rattle.saturate.specs.Steps.{ToWalk, ToIndex, IsIndexed}

@@ -16,7 +16,8 @@ use Rattle.layout.specs.Rows.{bookOf, boundOf, tableOf, GoodTerms}
 use Rattle.area.specs.declared.Header.{Header}
 use Rattle.area.specs.Held.{held}
 use Rattle.entries.specs.Known as Known
-use Rattle.state.specs.Ready.{Room, Lent, Ready}
+use Rattle.valued.specs.Valued.{Room}
+use Rattle.state.specs.Ready.{Lent, Ready}
 use Rattle.table.specs.Stands.{HoldsTable}
 use Rattle.steps.specs.declared.Stepped.{Stepped}
 

@@ -110,7 +110,7 @@ fn rebuild(
     ensures { λ s. ⌜ IsSettled h (now (es .exit)) s (bookOf (now (rows .entry)) (h .terms)) (boundOf (now (bindings .entry)) (h .terms)) (tableOf (now (es .entry)) (h .entries)) ⌝ }
 {
     let n = h.terms;
-    if !state::name_terms(n, list, bindings, roots, names, ls, rows, rs, hs, ns) {
+    if !valued::name_terms(n, list, bindings, roots, names, ls, rows, rs, hs, ns) {
         return steps::refused(10);
     }
     let m = h.entries as usize;

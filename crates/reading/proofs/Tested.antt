@@ -18,8 +18,8 @@ use Rattle.sound.proofs.Chain.{rows-rules}
 use Rattle.entries.specs.Known.{Known}
 use Rattle.entries.proofs.Loaded.{named-loaded, known-loaded}
 use Rattle.state.specs.Loading.{Used}
-use Rattle.state.specs.Ready.{Valued}
-use Rattle.state.proofs.Values.{front}
+use Rattle.valued.specs.Valued.{Valued}
+use Rattle.valued.proofs.Values.{front}
 
 module _ (w : Loaded) (used : Used w) (rows-ok : T (rowsOk w)) where
   -- rows in order hold terms that obey the rules

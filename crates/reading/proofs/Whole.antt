@@ -24,8 +24,10 @@ use Rattle.sound.proofs.Theorems.{sound-by-parts, state-by-parts}
 use Rattle.entries.specs.Known as Known
 use Rattle.area.specs.Held.{held}
 use Rattle.state.specs.Loading.{Words, Used}
-use Rattle.state.specs.Ready.{Valued, Room, Lent, Read}
-use Rattle.state.proofs.Rooms.{fewer-terms, fewer-entries}
+use Rattle.valued.specs.Valued.{Valued, Room}
+use Rattle.state.specs.Ready.{Lent, Read}
+use Rattle.valued.proofs.Rooms.{fewer-terms}
+use Rattle.state.proofs.Rooms.{fewer-entries}
 
 -- The header's numbers are the first words of the area.
 abbrev pub HeaderOf : List ℕ → Header → Type 0

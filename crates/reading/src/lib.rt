@@ -49,7 +49,7 @@ pub fn sound(
         return false;
     }
     let n = h.terms;
-    if !state::name_terms(n, list, bindings, roots, names, ls, rows, rs, heads, next) {
+    if !valued::name_terms(n, list, bindings, roots, names, ls, rows, rs, heads, next) {
         return false;
     }
     let m = h.entries as usize;

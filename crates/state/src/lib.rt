@@ -1,17 +1,13 @@
-// The state of an area, loaded and tested in parts: the header, the words of each part, the values of the terms.
+// The state of an area, loaded and tested in parts: the header, and the words of each part.
 
 ghost use mathlib.Core.Path.{_≡_};
-ghost use mathlib.Core.Bool.{true};
 ghost use lib.Dec.{T};
-ghost use Rattle.model.specs.Term.{acyclic};
 ghost use Rattle.model.specs.Area.{word};
 ghost use Rattle.theory.specs.Modest.{Modest};
 ghost use Rattle.layout.specs.Limits.{limitsOf};
-ghost use Rattle.layout.specs.Rows.{bookOf, boundOf, GoodTerms};
 ghost use Rattle.sound.specs.Sound.{loaded, headerOk, rowsOk};
 ghost use Rattle.area.specs.Held.{held};
 ghost use Rattle.state.specs.Loading.{Sizes, Words, Used};
-ghost use Rattle.state.specs.Ready.{Valued, Room};
 use area::Header;
 use layout::Limits;
 
@@ -79,30 +75,4 @@ pub fn rows_ok(h: Header, rows: &[u32], bindings: &[u32], lines: &[u32], entries
         return false;
     }
     tablerows::entry_rows_ok(entries, m, n)
-}
-
-// Whether no value contains itself; then lists the `n` terms, and finds what each stands for and its name. `roots` is scratch
-// until the names are found, and `ls`, `rs`, `heads` and `next` are scratch.
-pub fn name_terms(
-    n: u32,
-    list: &mut [u32],
-    bindings: &[u32],
-    roots: &mut [u32],
-    names: &mut [u32],
-    ls: &mut [u32],
-    rows: &[u32],
-    rs: &mut [u32],
-    heads: &mut [u32],
-    next: &mut [u32],
-) -> bool
-    requires { ⌜ GoodTerms (now rows) (now bindings) n × Room (now list) (now roots) (now names) (now ls) (now rs) (now heads) (now next) n ⌝ }
-    ensures acyclic { λ r. ⌜ r ≡ acyclic (bookOf (now (rows .entry)) n) (boundOf (now (bindings .entry)) n) ⌝ }
-    ensures values { λ r. ⌜ (r ≡ true → Valued (now (rows .entry)) (now (bindings .entry)) (now (list .exit)) (now (roots .exit)) (now (names .exit)) n) ⌝ }
-{
-    if !order::order(rows, bindings, n, roots, list) {
-        return false;
-    }
-    names::names(rows, bindings, n, list, ls, rs, heads, next, roots, names);
-    values::roots(rows, bindings, n, list, roots);
-    true
 }

@@ -19,8 +19,9 @@ use Rattle.sound.proofs.Parts.{Holds}
 use Rattle.entries.specs.Known.{Room}
 use Rattle.entries.proofs.Loaded.{named-loaded, known-loaded}
 use Rattle.entries.proofs.Places.{room-kept}
-use Rattle.state.specs.Ready.{Valued, Ready}
-use Rattle.state.proofs.Values.{front}
+use Rattle.valued.specs.Valued.{Valued}
+use Rattle.state.specs.Ready.{Ready}
+use Rattle.valued.proofs.Values.{front}
 use Rattle.state.proofs.Rooms.{fewer-entries}
 use Rattle.table.specs.Stands.{HoldsTable, KnownNames, KnownTerms, Stands}
 use Rattle.table.proofs.Sizes.{SameSizes}

@@ -20,7 +20,7 @@ use Rattle.sound.specs.Sound.{headerOk, rowsOk}
 use Rattle.entries.specs.Known.{Known}
 use Rattle.entries.proofs.Places.{room-kept}
 use Rattle.area.specs.Held.{held}
-use Rattle.state.specs.Ready.{Valued}
+use Rattle.valued.specs.Valued.{Valued}
 use Rattle.reading.proofs.Tested.{good-terms, table-known, rows-refused, cycle-refused, table-decides}
 use Rattle.reading.proofs.Whole.{are-bytes, used, room-terms, room-entries, decides, area-read}
 use Rattle.reading.proofs.Cut.{header-refused, header-within, cut-fits, cut-sizes, cut-length, cut-read}

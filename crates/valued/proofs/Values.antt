@@ -12,7 +12,7 @@ use Rattle.theory.proofs.Lists.From.{length-map-from}
 use Rattle.layout.specs.Rows.{bookOf, boundOf, GoodTerms}
 use Rattle.order.specs.Order.{Ordered}
 use Rattle.values.specs.Reading.{Listed}
-use Rattle.state.specs.Ready.{Valued}
+use Rattle.valued.specs.Valued.{Valued}
 
 -- a list whose first n words are known
 pub front : (n : ℕ) (xs ys : List ℕ) → take n xs ≡ ys → xs ≡ ys ++ drop n xs

@@ -1,4 +1,4 @@
--- `state::name_terms` meets its contract: a walk that finds no value that contains itself lists the terms, and along that list go
+-- `valued::name_terms` meets its contract: a walk that finds no value that contains itself lists the terms, and along that list go
 -- their names and what they stand for. Assumes nothing.
 use mathlib.Core.Path.{refl, sym, _∙_}
 use borrow.Author.Needs.{needs}
@@ -7,9 +7,9 @@ use denote.Ref.{now}
 use Rattle.theory.proofs.Lists.Laws.{true-T}
 use Rattle.names.proofs.Lowest.{scratch-kept}
 use Rattle.values.specs.Reading.{Listed}
-use Rattle.state.proofs.Values.{listed, valued}
-use Rattle.state.proofs.name_terms.Statement.{statement}
-use Rattle.state.proofs.name_terms.Tie as tie
+use Rattle.valued.proofs.Values.{listed, valued}
+use Rattle.valued.proofs.name_terms.Statement.{statement}
+use Rattle.valued.proofs.name_terms.Tie as tie
 
 -- past the walk the terms are listed
 all-listed : (e : tie.Else1) →

@@ -3,28 +3,17 @@
 ghost use mathlib.Core.Path.{_≡_};
 ghost use Rattle.request.specs.Requests.{byNumber, requestAt};
 
-// A step that is asked for. Its numbers end at `next`.
+// A step that is asked for, with its numbers and the position after it.
 pub enum Request {
     // the input has ended
     Ended,
     // a bad or cut number, or an unknown step
     Stopped(u32),
-    // a line
-    Line {
-        left: u32,
-        right: u32,
-        next: usize,
-    },
-    // a choice
-    Choice {
-        variable: u32,
-        term: u32,
-        next: usize,
-    },
-    // a report
-    Report {
-        next: usize,
-    },
+    // a line: the left term and the right
+    Line(u32, u32, usize),
+    // a choice: the variable and its term
+    Choice(u32, u32, usize),
+    Report(usize),
 }
 
 // The step numbered `n`, whose other numbers begin at position `at`.
@@ -32,7 +21,7 @@ fn by_number(input: &[u8], n: u32, at: usize) -> Request
     ensures { λ r. ⌜ r ≡ byNumber (now (input .entry)) n at ⌝ }
 {
     if n == 3 {
-        return Request::Report { next: at };
+        return Request::Report(at);
     }
     if n == 0 {
         return Request::Stopped(8);
@@ -50,17 +39,9 @@ fn by_number(input: &[u8], n: u32, at: usize) -> Request
                 next,
             } => {
                 if n == 1 {
-                    Request::Line {
-                        left: value,
-                        right: second,
-                        next,
-                    }
+                    Request::Line(value, second, next)
                 } else {
-                    Request::Choice {
-                        variable: value,
-                        term: second,
-                        next,
-                    }
+                    Request::Choice(value, second, next)
                 }
             }
             leb128::Decoded::Cut => Request::Stopped(1),

@@ -134,12 +134,8 @@ pub fn step(input: &[u8], at: usize, area: &mut [u8], out: &mut [u8]) -> Stepped
     match request::request_at(input, at) {
         Request::Ended => Stepped::Ended,
         Request::Stopped(n) => Stepped::Stopped(n),
-        Request::Line { left, right, next } => add(area, left, right, next),
-        Request::Choice {
-            variable,
-            term,
-            next,
-        } => bind(area, variable, term, next),
-        Request::Report { next } => report(area, out, next),
+        Request::Line(left, right, next) => add(area, left, right, next),
+        Request::Choice(variable, term, next) => bind(area, variable, term, next),
+        Request::Report(next) => report(area, out, next),
     }
 }

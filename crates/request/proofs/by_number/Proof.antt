@@ -44,34 +44,28 @@ enum-told-4 c = search needs
 returns-4 : tie.Need-returns-4
 unfolding orStop
 returns-4 c =
-    let second = c .before .before in
-    let read = second .before .before in
-    let first = read .before .before in
+    let second = c .before .before in let read = second .before .before in let first = read .before .before in
     by-both _ _ _ (omega arith) (omega arith) (first .before .before .read .ensures .0) (first .value .given .1) (read .read2 .ensures .0)
     _ (second .second .given .1) _ (two-line (c .if4 .taken))
 
 returns-5 : tie.Need-returns-5
 unfolding orStop
 returns-5 c =
-    let second = c .before .before in
-    let read = second .before .before in
-    let first = read .before .before in
+    let second = c .before .before in let read = second .before .before in let first = read .before .before in
     by-both _ _ _ (omega arith) (omega arith) (first .before .before .read .ensures .0) (first .value .given .1) (read .read2 .ensures .0)
     _ (second .second .given .1) _ (two-choice (c .if4 .left))
 
 returns-6 : tie.Need-returns-6
 unfolding orStop
 returns-6 c =
-    let read = c .before .before in
-    let first = read .before .before in
+    let read = c .before .before in let first = read .before .before in
     by-both _ _ _ (omega arith) (omega arith) (first .before .before .read .ensures .0) (first .value .given .1) (read .read2 .ensures .0)
     _ (c .enum-told .given .1) _ refl
 
 returns-7 : tie.Need-returns-7
 unfolding orStop
 returns-7 c =
-    let read = c .before .before in
-    let first = read .before .before in
+    let read = c .before .before in let first = read .before .before in
     by-both _ _ _ (omega arith) (omega arith) (first .before .before .read .ensures .0) (first .value .given .1) (read .read2 .ensures .0)
     _ (c .enum-told2 .given .1) _ refl
 

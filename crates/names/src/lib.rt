@@ -14,7 +14,7 @@ ghost use Rattle.values.specs.Reading.{Listed};
 ghost use Rattle.names.specs.Keys.{mixed, hashFrom, keyAt, Row, Rows, Earlier};
 ghost use Rattle.names.specs.Classes.{Classable, classOf, Scratch, SameClasses, Seen, Counted, lowestSame};
 
-// The hash `h` with `c` added to it: `h` is multiplied modulo 2^32 * 2654435843 - 1, a prime, by the inverse of 2^32.
+// The hash `h` with `c` in it: `h` is multiplied by 2654435843 modulo 2^32 * 2654435843 - 1, which is prime, and `c` is added.
 fn mix(h: u64, c: u32) -> u64
     ensures { λ r. ⌜ r ≡ mixed h c ⌝ }
 {

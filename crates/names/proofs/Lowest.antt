@@ -153,7 +153,7 @@ module _ {classes : List ℕ} {n : ℕ} {names₀ ls₀ rs₀ next₀ : List ℕ
 
     module _ (l : t < n) where
       -- there is room for the next pair and the next name
-      pub next-room : (t < length ls) × (t < length rs) × (t < length next)
+      pub next-room : (t < length ls) × (t < length rs) × (2 * t + 1 < length next)
       next-room = (
         omega (arith, h .room .lefts, h .left-size),
         omega (arith, h .room .rights, h .right-size),

@@ -1,7 +1,7 @@
 -- Nodes of a trie: symbol and numbers are read off the node, and more pairs leave a node as it is. Assumes nothing.
 use mathlib.Core.Path.{_≡_, refl, ap, sym, _∙_}
 use mathlib.Core.List.{List, [], _∷_, map}
-use Prim.Native.Nat.{ℕ, suc, _+_, _-_, _≤_, _<_}
+use Prim.Native.Nat.{ℕ, suc, _+_, _*_, _-_, _≤_, _<_}
 use native.Mathlib.Numerals.{add-one}
 use native.Mathlib.Omega.{arith}
 use lib.ListN.{length, drop, length-set, length-map}
@@ -109,7 +109,7 @@ walk-none m s args classes h room words =
 
 module _ {ls rs next : List ℕ} {m s : ℕ} {cs ls₁ rs₁ heads₁ next₁ : List ℕ} {node k j : ℕ} (w : Walk ls rs next m s cs ls₁ rs₁ heads₁ next₁ node k j) where
   -- there is room for the next pair
-  pub walk-room : 0 < j → (k < length ls₁) × (k < length rs₁) × (k < length next₁)
+  pub walk-room : 0 < j → (k < length ls₁) × (k < length rs₁) × (2 * k + 1 < length next₁)
   walk-room l = (
     omega (arith, w .pairs, w .room .lefts, w .grown .left-size),
     omega (arith, w .pairs, w .room .rights, w .grown .right-size),

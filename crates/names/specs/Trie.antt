@@ -1,7 +1,7 @@
 -- A trie in an indexed list of pairs: a number for each symbol over a list of numbers. Assumes nothing: these are definitions.
 use mathlib.Core.Path.{_≡_}
 use mathlib.Core.List.{List, [], _∷_, map}
-use Prim.Native.Nat.{ℕ, suc, _+_, _≤_, _<_}
+use Prim.Native.Nat.{ℕ, suc, _+_, _*_, _≤_, _<_}
 use lib.ListN.{length}
 use Rattle.model.specs.Limits.{maxSymbol}
 use Rattle.layout.specs.Rows.{at}
@@ -28,7 +28,7 @@ module _ (place : ℕ → ℕ → ℕ) where
 pub record Room (ls rs next : List ℕ) (m : ℕ) : Type 0 where
   pub lefts : m ≤ length ls
   pub rights : m ≤ length rs
-  pub links : m ≤ length next
+  pub links : 2 * m ≤ length next
 
 -- From m pairs to m′ in the same slices: those are indexed, and a pair that was there has the first place that it had.
 pub record Grown (ls rs next : List ℕ) (m : ℕ) (ls′ rs′ heads′ next′ : List ℕ) (m′ : ℕ) : Type 0 where

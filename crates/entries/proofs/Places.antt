@@ -1,7 +1,7 @@
 -- The pairs of a table's sides, each number under a function, pushed in order: what each push answers. Assumes nothing.
 use mathlib.Core.Path.{_≡_, refl, sym, _∙_}
 use mathlib.Core.List.{List, map}
-use Prim.Native.Nat.{ℕ, _+_, _<_}
+use Prim.Native.Nat.{ℕ, _+_, _*_, _<_}
 use native.Mathlib.Nat.{not-suc-le-zero}
 use native.Mathlib.Numerals.{add-one}
 use native.Mathlib.Omega.{arith}
@@ -109,7 +109,7 @@ module _ (f : ℕ → ℕ) (es : Table) where
   module _ {lefts₀ rights₀ heads₀ next₀ lefts rights heads next : List ℕ} {i : ℕ}
       (room : Room lefts₀ rights₀ heads₀ next₀ (length es)) (there : i < length es)
       (s : Filling f es lefts₀ rights₀ next₀ lefts rights heads next i) where
-    pub push-room : (i < length lefts) × (i < length rights) × (i < length next)
+    pub push-room : (i < length lefts) × (i < length rights) × (2 * i + 1 < length next)
     push-room = (
       omega (arith, room .lefts-fit, s .lefts-size),
       omega (arith, room .rights-fit, s .rights-size),

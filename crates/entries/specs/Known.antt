@@ -55,4 +55,4 @@ pub record Room (lefts rights heads next : List ℕ) (m : ℕ) : Type 0 where
   pub words : length lefts < 4294967296
   pub lefts-fit : m ≤ length lefts
   pub rights-fit : m ≤ length rights
-  pub next-fit : m ≤ length next
+  pub next-fit : 2 * m ≤ length next

@@ -70,7 +70,7 @@ module _ {rows bindings list : List ℕ} {n : ℕ} {classes₀ ls₀ rs₀ next�
       pub next-row : Row rows (length classes) (at list k)
       next-row = row-of (c .filled .listed) (length classes) (at list k) (next-term (c .filled) l) (omega (arith, c .filled .size, c .filled .fits))
 
-      pub next-room : (k < length ls) × (k < length rs) × (k < length next)
+      pub next-room : (k < length ls) × (k < length rs) × (2 * k + 1 < length next)
       next-room = (
         omega (arith, c .room .lefts, c .left-size),
         omega (arith, c .room .rights, c .right-size),

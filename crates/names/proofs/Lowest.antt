@@ -81,7 +81,6 @@ scratch-kept s l r h x k =
       left-words = omega (arith, s .left-words);
       all-heads = h ∙ s .all-heads;
       classes-fit = omega (arith, s .classes-fit);
-      words-fit = s .words-fit;
     }
 
 -- what finding the lowest terms asks, once the terms have their classes

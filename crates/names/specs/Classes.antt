@@ -5,7 +5,6 @@ use Prim.Native.Nat.{ℕ, suc, _+_, _*_, _≤_, _<_}
 use lib.ListN.{length, take}
 use lib.Dec.{eqb}
 use Rattle.model.specs.Lists.{first, from}
-use Rattle.model.specs.Limits.{maxArity, maxSymbol}
 use Rattle.model.specs.Term.{Book, Bindings, eqTree, val}
 use Rattle.layout.specs.Rows.{at, nodeOf, bookOf, boundOf}
 use Rattle.pairs.specs.Index.{buckets}
@@ -31,23 +30,18 @@ pub record Classable (rows bindings classes list : List ℕ) (n k place : ℕ) :
   pub place-within : place ≤ k
   pub no-key : place ≡ k → (j : ℕ) → j < k → keyIn rows bindings list n (at list k) ≡ keyIn rows bindings list n (at list j) → ⊥
 
--- How many symbols there are.
-abbrev pub symbols : ℕ
-symbols = suc maxSymbol
-
 -- There is room for m pairs.
 pub record Room (ls rs next : List ℕ) (m : ℕ) : Type 0 where
   pub lefts : m ≤ length ls
   pub rights : m ≤ length rs
-  pub links : m ≤ length next
+  pub links : 2 * m ≤ length next
 
--- The slices are long enough for n terms with a pair for each argument, and their numbers are words.
+-- The slices are long enough for n terms with a pair for each, and their numbers are words.
 pub record Scratch (ls rs heads next classes : List ℕ) (n : ℕ) : Type 0 where
-  pub room : Room ls rs next (maxArity * n)
+  pub room : Room ls rs next n
   pub left-words : length ls < 4294967296
   pub all-heads : length heads ≡ buckets
   pub classes-fit : n ≤ length classes
-  pub words-fit : n + symbols + maxArity * n ≤ 4294967296
 
 -- Terms have one class exactly where they have one value, and a class is a term.
 pub record SameClasses (b : Book) (β : Bindings) (classes : List ℕ) (n : ℕ) : Type 0 where

@@ -36,7 +36,7 @@ pub fn read(
     let mut lefts = [0u32; PAIRS];
     let mut rights = [0u32; PAIRS];
     let mut heads = [0u32; pairs::BUCKETS];
-    let mut next = [0u32; PAIRS];
+    let mut next = [0u32; 2 * PAIRS];
     reading::sound(
         rows,
         &mut bindings,
@@ -68,7 +68,7 @@ pub fn step(area: &mut [u8], fixes: bool, a: u32, b: u32) -> Stepped
     let mut heads = [0u32; pairs::BUCKETS];
     let mut lefts = [0u32; PAIRS];
     let mut rights = [0u32; PAIRS];
-    let mut next = [0u32; PAIRS];
+    let mut next = [0u32; 2 * PAIRS];
     calls::step(
         &mut rows,
         &mut bindings,

@@ -1,4 +1,3 @@
 pub mod Laws
-pub mod Chains
-pub mod Search
+pub mod Descent
 pub mod Growth

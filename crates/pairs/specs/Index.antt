@@ -1,47 +1,71 @@
--- The index of a list of pairs: each pair has a bucket, and the first places of the pairs of a bucket are a chain of links from
--- higher to lower places. A link is a place plus 1, or 0 at the chain's end. Assumes nothing: these are definitions.
+-- The index of a list of pairs of words: trees of places. Each pair has a bucket with a tree of its own, and goes down it by the bits
+-- of its way. A cell holds a link, which is a place plus 1, or 0 where there is none. Assumes nothing: these are definitions.
 use mathlib.Core.Path.{_≡_}
-use mathlib.Core.List.{List}
-use mathlib.Core.Bool.{Bool, cond, _&&_}
-use Prim.Native.Nat.{ℕ, zero, suc, _+_, _*_, _/_, _%_, _≤_, _<_}
+use mathlib.Core.List.{List, _++_}
+use Prim.Native.Nat.{ℕ, suc, _+_, _*_, _/_, _%_, _≤_, _<_}
 use lib.ListN.{length, getD, set, replicate}
-use lib.Dec.{T, eqb}
 use Rattle.pairs.specs.Pairs.{placeOf}
+use Rattle.pairs.specs.declared.Found.{Found}
 
--- The number of buckets, and the bucket of (a, b): twelve bits of a sum whose two factors are 2 ^ 32 times 1 - 1/g and 1/g², where
--- g³ = g + 1; multiples of these two fractions spread the points of a grid evenly.
+-- The number of buckets.
 abbrev pub buckets : ℕ
 buckets = 4096
 
+-- The hash of (a, b): a and the low 14 bits of b, multiplied by an odd number modulo 2 ^ 46, and above them the high bits of b. No
+-- two pairs of words have one hash, and no two pairs of numbers below 2 ^ 14 one in its low 28 bits.
+unfoldable pub hashOf : ℕ → ℕ → ℕ
+hashOf a b = (a * 16384 + b % 16384) * 204665 % 70368744177664 + b / 16384 * 70368744177664
+
+-- The bucket of (a, b), bits 16 to 27 of its hash, and its way down, the other 52 bits from the lowest. So a tree of pairs of
+-- numbers below 2 ^ 14 is at most 17 places deep, and any tree at most 53. Nothing but time depends on this.
 unfoldable pub bucketOf : ℕ → ℕ → ℕ
-bucketOf a b = (a * 1052792407 + b * 2447445413) / 1048576 % buckets
+bucketOf a b = hashOf a b / 65536 % buckets
 
--- Whether place i is in the chain of bucket k: its pair is of that bucket, and stands at no lower place.
-unfoldable pub chained : List ℕ → List ℕ → ℕ → ℕ → Bool
-chained ls rs k i =
-    let a = getD ls i 0 in
-    let b = getD rs i 0 in
-    eqb (bucketOf a b) k && eqb (placeOf ls rs i a b) i
+unfoldable pub wayOf : ℕ → ℕ → ℕ
+wayOf a b = hashOf a b % 65536 + hashOf a b / 268435456 * 65536
 
--- The link to the highest place below m in the chain of bucket k.
-unfoldable pub link : List ℕ → List ℕ → ℕ → ℕ → ℕ
-link ls rs k zero = 0
-link ls rs k (suc m) = cond (chained ls rs k m) (suc m) (link ls rs k m)
+-- The cells: a head for each bucket, then two for each place. Their number for n places, and the cell below place p on a way.
+abbrev pub cellsOf : ℕ → ℕ
+cellsOf n = buckets + 2 * n
 
--- The first n pairs are indexed: there is a place for each, every link is a word, each bucket's head is the link to its highest
--- place, and at each place of a chain stands the link to the next lower one.
+abbrev pub cellBelow : ℕ → ℕ → ℕ
+cellBelow p way = buckets + (2 * p + way % 2)
+
+-- From a cell a way leads to place p: the cell has the link to p, or to a lower place from which the rest of the way leads to p.
+pub data Leads (cells : List ℕ) (p : ℕ) : ℕ → ℕ → Type 0 where
+  here : {cell way : ℕ} → getD cells cell 0 ≡ suc p → Leads cells p cell way
+  down : {cell way : ℕ} (q : ℕ) → getD cells cell 0 ≡ suc q → q < p → Leads cells p (cellBelow q way) (way / 2) → Leads cells p cell way
+
+-- The first n pairs are indexed: there is room for each, a link goes to a place whose own cells come later, and the way of each pair
+-- leads from its bucket's head to its first place.
 pub record Indexed (lefts rights heads next : List ℕ) (n : ℕ) : Type 0 where
   pub lefts-fit : n ≤ length lefts
   pub rights-fit : n ≤ length rights
-  pub next-fit : n ≤ length next
+  pub next-fit : 2 * n ≤ length next
   pub words : length lefts < 4294967296
   pub all-heads : length heads ≡ buckets
-  pub head : (k : ℕ) → k < buckets → getD heads k 0 ≡ link lefts rights k n
-  pub tail : (k i : ℕ) → i < n → T (chained lefts rights k i) → getD next i 0 ≡ link lefts rights k i
+  pub later : (cell p : ℕ) → cell < cellsOf n → getD (heads ++ next) cell 0 ≡ suc p → (p < n) × (cell < cellsOf p)
+  pub leads : (a b : ℕ) → placeOf lefts rights n a b < n → Leads (heads ++ next) (placeOf lefts rights n a b) (bucketOf a b) (wayOf a b)
 
--- The heads of empty chains.
+-- The heads of empty trees.
 unfoldable pub noHeads : List ℕ
 noHeads = replicate buckets 0
+
+-- The links in the first m cells of one list stand in the other too.
+abbrev pub LinksKept : List ℕ → List ℕ → ℕ → Type 0
+LinksKept cells cells′ m = (cell p : ℕ) → cell < m → getD cells cell 0 ≡ suc p → getD cells′ cell 0 ≡ suc p
+
+-- A cell without a link at which the search of (a, b) among the first n pairs ends: with the link to place n there, the way of (a, b)
+-- leads to n.
+pub record Ends (cells : List ℕ) (n a b cell : ℕ) : Type 0 where
+  pub low : cell < cellsOf n
+  pub empty : getD cells cell 0 ≡ 0
+  pub joins : (cells′ : List ℕ) → LinksKept cells cells′ (cellsOf n) → getD cells′ cell 0 ≡ suc n → Leads cells′ n (bucketOf a b) (wayOf a b)
+
+-- The first place of (a, b) among the first n pairs, or n and the cell at which the search ends.
+pub record Searched (lefts rights heads next : List ℕ) (n a b : ℕ) (r : Found) : Type 0 where
+  pub place : r .place ≡ placeOf lefts rights n a b
+  pub ends : r .place ≡ n → Ends (heads ++ next) n a b (r .cell)
 
 -- One pair more, (a, b) at place n: the lists after it, which are indexed, and r, the first place of (a, b) in them. It is the
 -- first place that (a, b) had, or n.

@@ -76,7 +76,7 @@ module _ {names entries lefts₀ rights₀ heads₀ next₀ : List ℕ} {m : ℕ
     (h : Indexing names entries lefts₀ rights₀ heads₀ next₀ m lefts rights heads next i) where
   -- there is room for the next pair
   pub next-room : {hs : List ℕ} {b : Book} {β : Bindings} {es : Table} → ToIndex names entries lefts₀ rights₀ hs next₀ m b β es → i < m
-      → Indexed lefts rights heads next i × ((i < length lefts) × (i < length rights) × (i < length next))
+      → Indexed lefts rights heads next i × ((i < length lefts) × (i < length rights) × (2 * i + 1 < length next))
   next-room {hs} q t =
       let room = q .room in
       let sizes = h .sizes in

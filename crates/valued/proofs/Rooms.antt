@@ -20,6 +20,5 @@ fewer-terms l r =
         left-words = r .scratch .left-words;
         all-heads = r .scratch .all-heads;
         classes-fit = omega (arith, r .scratch .classes-fit);
-        words-fit = omega (arith, r .scratch .words-fit);
       };
     }

@@ -8,7 +8,6 @@ use native.Mathlib.Numerals.{add-one}
 use native.Mathlib.Omega.{arith}
 use borrow.Author.Count.{below-more}
 use lib.ListN.{length, set, length-set}
-use Rattle.model.specs.Limits.{maxArity}
 use Rattle.layout.specs.Rows.{at, bookOf, boundOf}
 use Rattle.pairs.specs.Index.{noHeads, Indexed, Pushed}
 use Rattle.pairs.proofs.Laws.{Holds, place-le, place-least, kept-holds, kept-set, holds-set}
@@ -29,7 +28,7 @@ Halves ls rs i h = Holds ls rs i (h / 4294967296) (h % 4294967296)
 
 -- After k terms: their classes, and the pairs of their hashes.
 pub record Classifying (rows bindings list : List ℕ) (n : ℕ) (classes₀ ls₀ rs₀ next₀ classes ls rs heads next : List ℕ) (k : ℕ) : Type 0 where
-  pub room : Room ls₀ rs₀ next₀ (maxArity * n)
+  pub room : Room ls₀ rs₀ next₀ n
   pub left-size : length ls ≡ length ls₀
   pub right-size : length rs ≡ length rs₀
   pub next-size : length next ≡ length next₀

@@ -14,7 +14,7 @@ ghost use Rattle.numbering.specs.Numbering.{Entries, EntryFits, Closed, 
 use layout::ENTRY_WORDS;
 
 // The class of the entry in row `i`.
-pub fn class_of(entries: &[u32], i: usize) -> u32
+fn class_of(entries: &[u32], i: usize) -> u32
     requires { ⌜ entryRowWords * i + entryRowWords ≤ length (now entries) ⌝ }
     ensures { λ r. ⌜ r ≡ loadedEntry (now (entries .entry)) i .sameAs ⌝ }
 {

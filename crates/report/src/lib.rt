@@ -17,7 +17,7 @@ use layout::ENTRY_WORDS;
 const MOST: usize = 4 + layout::MAX_ARITY;
 
 // Puts the numbers before the entries at the front of `head`: how many lines, each line's entry, how many entries.
-pub fn number_lines(entries: &[u32], numbers: &[u32], lines: &[u32], count: usize, head: &mut [u32])
+fn number_lines(entries: &[u32], numbers: &[u32], lines: &[u32], count: usize, head: &mut [u32])
     requires { ⌜ Given (λ s. Tabled s (now entries) (now numbers) × (now lines ≡ s .lines) × (count ≡ length (classes s))) ⌝ }
     requires { ⌜ length (now lines) + 2 ≤ length (now head) ⌝ }
     ensures { λ _. ⌜ ((s : State) → Tabled s (now (entries .entry)) (now (numbers .entry)) → now (lines .entry) ≡ s .lines → count ≡ length (classes s)
@@ -95,7 +95,7 @@ fn put_entry(
 }
 
 // How many bytes the report takes.
-pub fn report_length(
+fn report_length(
     head: &[u32],
     entries: &[u32],
     numbers: &[u32],
@@ -117,7 +117,7 @@ pub fn report_length(
 
 // Writes the report to the front of `out`, which is long enough, and gives the number of bytes. Each entry is written to the
 // part of `out` that is not written yet.
-pub fn write_report(
+fn write_report(
     head: &[u32],
     out: &mut [u8],
     entries: &[u32],

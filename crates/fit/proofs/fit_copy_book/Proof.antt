@@ -1,46 +1,7 @@
--- `fit::fit_copy_book` meets its contract. Where the decoder refuses nothing, its rows are those of a book, and that book is
--- written. Assumes nothing.
-use mathlib.Core.Path.{sym, _∙_}
-use native.Mathlib.Omega.{arith}
+-- `fit::fit_copy_book` meets its contract, which is that of `copying::copy_book`. Assumes nothing.
 use borrow.Author.Needs.{needs}
-use Rattle.runs.proofs.Emitted.{refuses}
-use Rattle.fit.proofs.BookHeld.{held-encodable, held-few}
-use Rattle.fit.proofs.Copied.{Decoded, copied-refused, decoded-held, copied}
 use Rattle.fit.proofs.fit_copy_book.Statement.{statement}
 use Rattle.fit.proofs.fit_copy_book.Tie as tie
 
--- what is known behind the test
-rows-decoded : (c : tie.Else1) → Decoded (c .before .before .before .before .before .before .args .book .now) (c .before .before .decode .last .1 .1 .0) (c .before .before .decode .result .terms)
-rows-decoded c =
-    let d = c .before .before .decode in
-    record {
-      none-refused = sym (d .ensures .0) ∙ c .if1 .left;
-      as-many = d .ensures .1 .0;
-      written = d .ensures .1 .1 (c .if1 .left);
-    }
-
-returns : tie.Need-returns
-returns c =
-    let test = c .before .before in
-    refuses (c .refuse .ensures) (copied-refused _ _ _ (test .before .before .decode .ensures .0) (test .if1 .taken))
-
-write-book-requires : tie.Need-write-book-requires
-write-book-requires c κs =
-    let d = decoded-held (rows-decoded (c .before .before .before .before)) in (held-encodable d, omega (arith, held-few d))
-
-returns-2 : tie.Need-returns-2
-returns-2 c = copied (rows-decoded (c .before .before .before .before .before .before .before)) _ (c .before .before .write-book .ensures)
-
 pub fit-copy-book-spec : {M : Type 1} → statement M
-fit-copy-book-spec =
-    tie.close
-    (tie.spec
-    (λ c. search needs)
-    (λ c κs. search needs)
-    (λ c κs. search needs)
-    returns
-    (λ c. search needs)
-    (λ c. search needs)
-    write-book-requires
-    (λ c. search needs)
-    returns-2)
+fit-copy-book-spec = tie.close (tie.spec (λ c κs. search needs) (λ c. search needs) (λ c. c .before .before .copy-book .ensures))

@@ -17,7 +17,7 @@ use Rattle.theory.proofs.Book.Round.{parsed-formed}
 use Rattle.theory.proofs.Book.Opening.{Positive, book-positive}
 use Rattle.decoding.specs.Rows.{bookRows, refusalOf, decodedBook}
 use Rattle.store.specs.Opened.{openedWords}
-use Rattle.fit.specs.Offered.{neededLength}
+use Rattle.copying.specs.Offered.{neededLength}
 use Rattle.store.proofs.JustOpened.{opened-words}
 
 -- THE CAPACITY. Whether it lies in its range, by the outcome of two tests.

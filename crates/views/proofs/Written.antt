@@ -22,7 +22,7 @@ use Rattle.reading.proofs.Tested.{table-known}
 use Rattle.state.proofs.Uses.{read-facts, read-rows, read-terms, read-entries}
 use Rattle.report.specs.Shown.{Told}
 use Rattle.office.specs.Held.{Held}
-use Rattle.fit.proofs.BookHeld.{BookHeld, held-book}
+use Rattle.copying.proofs.BookHeld.{BookHeld, held-book}
 
 -- A call that tests an area and emits bytes, by the test.
 module _ (new area out : List ℕ) where

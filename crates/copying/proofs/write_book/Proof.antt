@@ -1,13 +1,11 @@
--- `fit::write_book` meets its contract: an output that is too short, or one that the encoder has written to. Assumes nothing.
+-- `copying::write_book` meets its contract: an output that is too short, or one that the encoder has written to. Assumes nothing.
 use borrow.Author.Needs.{needs}
-use Rattle.runs.proofs.Emitted.{refuses, emit-short, emit-whole}
-use Rattle.fit.proofs.write_book.Statement.{statement}
-use Rattle.fit.proofs.write_book.Tie as tie
+use Rattle.runs.proofs.Emitted.{emit-short, emit-whole}
+use Rattle.copying.proofs.write_book.Statement.{statement}
+use Rattle.copying.proofs.write_book.Tie as tie
 
 returns : tie.Need-returns
-returns c =
-    let short = c .before .before in
-    refuses (c .refuse .ensures) (emit-short _ _ _ (rw (short .before .encoded-length .ensures) at (short .if1 .taken)))
+returns c = emit-short _ _ _ (rw (c .before .encoded-length .ensures) at (c .if1 .taken))
 
 returns-2 : tie.Need-returns-2
 returns-2 c =
@@ -19,7 +17,6 @@ pub write-book-spec : {M : Type 1} → statement M
 write-book-spec =
     tie.close
     (tie.spec
-    (λ c κs. search needs)
     (λ c κs. search needs)
     returns
     (λ c κs. search needs)

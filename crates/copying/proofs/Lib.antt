@@ -1,5 +1,3 @@
 pub mod OpenCases
 pub mod BookHeld
 pub mod Copied
-pub mod Written
-pub mod EntryCases

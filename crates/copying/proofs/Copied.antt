@@ -15,8 +15,8 @@ use Rattle.layout.specs.Rows.{bookOf}
 use Rattle.runs.specs.Emits.{Writes}
 use Rattle.runs.proofs.Emitted.{writes}
 use Rattle.decoding.specs.Rows.{bookRows, refusalOf, decodedBook}
-use Rattle.fit.proofs.OpenCases.{decoded, copy-refused, copy-parsed}
-use Rattle.fit.proofs.BookHeld.{BookHeld, held-book}
+use Rattle.copying.proofs.OpenCases.{decoded, copy-refused, copy-parsed}
+use Rattle.copying.proofs.BookHeld.{BookHeld, held-book}
 
 -- a book that is refused
 pub copied-refused : (book out : List ℕ) (n : ℕ) → n ≡ refusalOf (parseBook office book) → (n ≡ 0 → ⊥) → Writes (callCopy office book out) n 0 out

@@ -82,7 +82,7 @@ fn walk_term(
     }
 }
 
-// Walks what the value of `t` is made of, one term after the other.
+// Walks what the value of `t` is made of, one term after the other. Most are finished already, and need no call.
 fn walk_arguments(
     rows: &[u32],
     bindings: &[u32],
@@ -102,12 +102,15 @@ fn walk_arguments(
     let mut i = 0;
     while i < count {
         let u = part(rows, bindings, n, t, i);
+        i += 1;
+        if marks[u as usize] == 2 {
+            continue;
+        }
         let w = walk_term(rows, bindings, n, u, marks, list, place);
         if !w.ok {
             return w;
         }
         place = w.done;
-        i += 1;
     }
     Walk {
         ok: true,

@@ -83,37 +83,55 @@ module _ (m : ℕ) where
       let ready = head .loop .inv .0 .ready in
       (ready .good, (ready .term, omega (arith, head .before .part-count .ensures, c .loop-test .taken)))
 
-  walk-arguments-walk-term-requires : walk-arguments-lts.Need-walk-term-requires (walk-arguments-calls m) (walk-arguments-at m) walk-arguments.Post Inv-loop μ-loop
-  walk-arguments-walk-term-requires c κs =
-      let part = part-at (c .before .before) in
-      (omega (arith, c .before .before .before .before .before .before .before .before .before .before .pre .0, part .between .no-more-left), part-ready part)
-
-  walk-arguments-same-length : walk-arguments-lts.Need-same-length (walk-arguments-calls m) (walk-arguments-at m) walk-arguments.Post Inv-loop μ-loop
-  walk-arguments-same-length c =
-      let called = c .before .before .before .before .before .before in
-      called .walk-term .kept .1 .1 .1 .1 .0 ∙ called .before .before .before .before .before .loop .inv .1
-
-  walk-arguments-same-length-2 : walk-arguments-lts.Need-same-length-2 (walk-arguments-calls m) (walk-arguments-at m) walk-arguments.Post Inv-loop μ-loop
-  walk-arguments-same-length-2 c =
-      let called = c .before .before .before .before .before .before in
-      called .walk-term .kept .1 .1 .1 .1 .1 .0 ∙ called .before .before .before .before .before .loop .inv .2
-
-  walk-arguments-returns : walk-arguments-lts.Need-returns (walk-arguments-calls m) (walk-arguments-at m) walk-arguments.Post Inv-loop μ-loop
-  walk-arguments-returns c =
-      let called = c .before .before .before .before .before .before in
-      outcome-part (part-at (called .before .before .before)) (called .walk-term .ensures) (not-true _ (c .if1 .taken))
-
   walk-arguments-add-i : walk-arguments-lts.Need-add-i (walk-arguments-calls m) (walk-arguments-at m) walk-arguments.Post Inv-loop μ-loop
-  walk-arguments-add-i c = omega (arith, part-few (part-at (c .before .before .before .before .before .before .before .before .before)))
+  walk-arguments-add-i c = omega (arith, part-few (part-at c))
+
+  walk-arguments-cast-if1 : walk-arguments-lts.Need-cast-if1 (walk-arguments-calls m) (walk-arguments-at m) walk-arguments.Post Inv-loop μ-loop
+  walk-arguments-cast-if1 c = search needs
+
+  walk-arguments-mul-if1 : walk-arguments-lts.Need-mul-if1 (walk-arguments-calls m) (walk-arguments-at m) walk-arguments.Post Inv-loop μ-loop
+  walk-arguments-mul-if1 c = search needs
+
+  walk-arguments-slice-read-if1 : walk-arguments-lts.Need-slice-read-if1 (walk-arguments-calls m) (walk-arguments-at m) walk-arguments.Post Inv-loop μ-loop
+  walk-arguments-slice-read-if1 c = term-room (part-ready (part-at (c .before)))
 
   walk-arguments-loop-less : walk-arguments-lts.Need-loop-less (walk-arguments-calls m) (walk-arguments-at m) walk-arguments.Post Inv-loop μ-loop
   walk-arguments-loop-less c = search needs
 
   walk-arguments-loop-again : walk-arguments-lts.Need-loop-again (walk-arguments-calls m) (walk-arguments-at m) walk-arguments.Post Inv-loop μ-loop
   walk-arguments-loop-again c =
+      let head = c .before .before .before .before in
+      let part = part-at (c .before .before) in
+      (between-more part (outcome-finished (part-ready part) (c .if1 .taken)) refl, head .loop .inv .1, head .loop .inv .2)
+
+  walk-arguments-walk-term-requires : walk-arguments-lts.Need-walk-term-requires (walk-arguments-calls m) (walk-arguments-at m) walk-arguments.Post Inv-loop μ-loop
+  walk-arguments-walk-term-requires c κs =
+      let part = part-at (c .before .before .before .before) in
+      (omega (arith, c .before .before .before .before .before .before .before .before .before .before .before .before .pre .0, part .between .no-more-left), part-ready part)
+
+  walk-arguments-same-length : walk-arguments-lts.Need-same-length (walk-arguments-calls m) (walk-arguments-at m) walk-arguments.Post Inv-loop μ-loop
+  walk-arguments-same-length c =
       let called = c .before .before .before .before .before .before in
-      let head = called .before .before .before .before .before in (
-        between-more (part-at (called .before .before .before)) (called .walk-term .ensures) (not-false _ (c .if1 .left)),
+      called .walk-term .kept .1 .1 .1 .1 .0 ∙ called .before .before .before .before .before .before .before .loop .inv .1
+
+  walk-arguments-same-length-2 : walk-arguments-lts.Need-same-length-2 (walk-arguments-calls m) (walk-arguments-at m) walk-arguments.Post Inv-loop μ-loop
+  walk-arguments-same-length-2 c =
+      let called = c .before .before .before .before .before .before in
+      called .walk-term .kept .1 .1 .1 .1 .1 .0 ∙ called .before .before .before .before .before .before .before .loop .inv .2
+
+  walk-arguments-returns : walk-arguments-lts.Need-returns (walk-arguments-calls m) (walk-arguments-at m) walk-arguments.Post Inv-loop μ-loop
+  walk-arguments-returns c =
+      let called = c .before .before .before .before .before .before in
+      outcome-part (part-at (called .before .before .before .before .before)) (called .walk-term .ensures) (not-true _ (c .if2 .taken))
+
+  walk-arguments-loop-less-2 : walk-arguments-lts.Need-loop-less-2 (walk-arguments-calls m) (walk-arguments-at m) walk-arguments.Post Inv-loop μ-loop
+  walk-arguments-loop-less-2 c = search needs
+
+  walk-arguments-loop-again-2 : walk-arguments-lts.Need-loop-again-2 (walk-arguments-calls m) (walk-arguments-at m) walk-arguments.Post Inv-loop μ-loop
+  walk-arguments-loop-again-2 c =
+      let called = c .before .before .before .before .before .before in
+      let head = called .before .before .before .before .before .before .before in (
+        between-more (part-at (called .before .before .before .before .before)) (called .walk-term .ensures) (not-false _ (c .if2 .left)),
         called .walk-term .kept .1 .1 .1 .1 .0 ∙ head .loop .inv .1,
         called .walk-term .kept .1 .1 .1 .1 .1 .0 ∙ head .loop .inv .2,
       )
@@ -135,13 +153,18 @@ module _ (m : ℕ) where
       walk-arguments-part-count-requires
       walk-arguments-loop-holds
       walk-arguments-part-requires
+      walk-arguments-add-i
+      walk-arguments-cast-if1
+      walk-arguments-mul-if1
+      walk-arguments-slice-read-if1
+      walk-arguments-loop-less
+      walk-arguments-loop-again
       walk-arguments-walk-term-requires
       walk-arguments-same-length
       walk-arguments-same-length-2
       walk-arguments-returns
-      walk-arguments-add-i
-      walk-arguments-loop-less
-      walk-arguments-loop-again
+      walk-arguments-loop-less-2
+      walk-arguments-loop-again-2
       walk-arguments-same-length-3
       walk-arguments-same-length-4
       walk-arguments-returns-2

@@ -69,7 +69,7 @@ module _ {h : Header} {rows bindings list roots names entries lefts rights heads
     pub t-fits : t + 1 < 4294967296
     t-fits =
         let t-term : t < h .terms = rw length-bookOf at (tests .t-term) in
-        omega (arith, a .ready .used .bindings-fit, a .ready .sizes .bindings-size, a .lent .for-terms .scratch .words-fit)
+        omega (arith, a .ready .used .bindings-fit, a .ready .sizes .bindings-size, a .lent .for-terms .scratch .room .lefts, a .lent .for-terms .scratch .left-words)
 
     pub v-fits : v < length bindings
     v-fits = omega (arith, v-term, a .ready .used .bindings-fit)

@@ -13,8 +13,8 @@ use steps::Stepped;
 // The words of the largest table.
 pub const TABLE_WORDS: usize = layout::ENTRY_WORDS * layout::OFFICE_CAPACITY;
 
-// The pairs that there is room for in the scratch of a call: one for each argument of a term.
-pub const PAIRS: usize = layout::MAX_ARITY * layout::OFFICE_TERMS;
+// The pairs that there is room for in the scratch of a call: one for each entry, of which there are at least as many as terms.
+pub const PAIRS: usize = layout::OFFICE_CAPACITY;
 
 // Whether an area is sound; then the slices have the rows of its terms, its lines, the rows of its entries and the names of its
 // terms.

@@ -2,7 +2,7 @@
 use mathlib.Core.List.{List}
 use Prim.Native.Nat.{ℕ, _≤_}
 use native.Mathlib.Omega.{arith}
-use Rattle.entries.specs.Known as Known
+use Rattle.kinds.specs.Known as Known
 use Rattle.state.specs.Ready.{Room}
 
 -- room for more terms, or for more entries, is room for fewer

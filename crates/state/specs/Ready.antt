@@ -13,7 +13,7 @@ use Rattle.layout.specs.Rows.{bookOf, boundOf, Loaded, loadedState}
 use Rattle.values.specs.Reading.{Listed}
 use Rattle.names.specs.Classes.{Scratch}
 use Rattle.sound.specs.Sound.{rowsOk}
-use Rattle.entries.specs.Known as Known
+use Rattle.kinds.specs.Known as Known
 use Rattle.state.specs.Loading.{Sizes, Used}
 
 -- The list has the n terms, each behind what its value is made of; then what each term stands for, and its name.

@@ -15,7 +15,7 @@ use Rattle.layout.specs.Rows.{Loaded, Sized, loadedState}
 use Rattle.area.specs.declared.Header.{Header}
 use Rattle.area.specs.Held.{held}
 use Rattle.sound.proofs.Parts.{Holds}
-use Rattle.entries.specs.Known.{Room}
+use Rattle.kinds.specs.Known.{Room}
 use Rattle.state.specs.Ready.{Ready}
 use Rattle.state.proofs.Uses.{ready-facts, ready-sized, ready-holds}
 use Rattle.table.specs.Stands.{HoldsTable, GivenTable, Whatever}

@@ -13,7 +13,7 @@ use Rattle.model.specs.Area.{entryRowWords}
 use Rattle.layout.specs.Rows.{loadedState}
 use Rattle.area.specs.declared.Header.{Header}
 use Rattle.area.specs.Held.{held}
-use Rattle.entries.specs.Known.{Room}
+use Rattle.kinds.specs.Known.{Room}
 use Rattle.state.specs.Ready.{Ready}
 use Rattle.table.specs.Stands.{KnownTerms, Reaches}
 use Rattle.table.specs.declared.Placed.{Placed}

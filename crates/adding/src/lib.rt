@@ -2,7 +2,7 @@
 
 ghost use Rattle.theory.specs.Modest.{Modest};
 ghost use Rattle.layout.specs.Limits.{limitsOf};
-ghost use Rattle.entries.specs.Known.{Room};
+ghost use Rattle.kinds.specs.Known.{Room};
 ghost use Rattle.table.specs.Stands.{GivenTable, Whatever};
 ghost use Rattle.adding.specs.Adding.{ToGrow, IsGrown, GivenState, AddsLine};
 use area::Header;

@@ -23,7 +23,7 @@ use Rattle.area.specs.Held.{held}
 use Rattle.values.specs.Reading.{Listed}
 use Rattle.names.proofs.Lowest.{scratch-kept}
 use Rattle.sound.proofs.Tests.{row-facts}
-use Rattle.entries.proofs.Places.{room-kept}
+use Rattle.kinds.proofs.Room.{room-kept}
 use Rattle.valued.proofs.Rooms.{fewer-terms}
 use Rattle.state.proofs.Rooms.{fewer-entries}
 use Rattle.state.proofs.Uses.{ready-facts, ready-holds}

@@ -10,8 +10,8 @@ use Rattle.model.specs.Term.{acyclic}
 use Rattle.layout.specs.Rows.{bookOf, boundOf, tableOf}
 use Rattle.layout.proofs.Rows.{length-bookOf, length-tableOf}
 use Rattle.area.specs.declared.Header.{Header}
-use Rattle.entries.specs.Known.{Room}
-use Rattle.entries.proofs.Places.{room-kept}
+use Rattle.kinds.specs.Known.{Room}
+use Rattle.kinds.proofs.Room.{room-kept}
 use Rattle.valued.specs.Valued.{Valued}
 use Rattle.table.specs.Stands.{Whatever}
 use Rattle.table.proofs.Sizes.{SameSizes}

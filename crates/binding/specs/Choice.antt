@@ -15,7 +15,7 @@ use Rattle.model.specs.Area.{entryRowWords}
 use Rattle.layout.specs.Rows.{bookOf, boundOf, tableOf, GoodTerms}
 use Rattle.area.specs.declared.Header.{Header}
 use Rattle.area.specs.Held.{held}
-use Rattle.entries.specs.Known as Known
+use Rattle.kinds.specs.Known as Known
 use Rattle.valued.specs.Valued.{Room}
 use Rattle.state.specs.Ready.{Lent, Ready}
 use Rattle.table.specs.Stands.{HoldsTable}

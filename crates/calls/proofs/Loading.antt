@@ -7,7 +7,7 @@ use lib.ListN.{length, take, length-take}
 use Rattle.model.specs.Limits.{Limits}
 use Rattle.model.specs.Area.{entryRowWords, word}
 use Rattle.names.proofs.Lowest.{scratch-kept}
-use Rattle.entries.proofs.Places.{room-kept}
+use Rattle.kinds.proofs.Room.{room-kept}
 use Rattle.area.specs.declared.Header.{Header}
 use Rattle.area.specs.Held.{held}
 use Rattle.state.specs.Loading.{headerOf}

@@ -20,8 +20,8 @@ use Rattle.pairs.specs.Pairs.{placeOf}
 use Rattle.pairs.specs.Index.{Indexed, noHeads, Pushed}
 use Rattle.pairs.proofs.Laws.{Holds, Kept, place-least, place-none, place-at, place-kept, kept-set, holds-set}
 use Rattle.pairs.proofs.Growth.{indexed-none}
-use Rattle.entries.specs.Known.{Room}
-use Rattle.entries.proofs.Names.{SideNames, entryOf-place}
+use Rattle.kinds.specs.Known.{Room}
+use Rattle.kinds.proofs.Names.{SideNames, entryOf-place}
 
 -- one side of each entry under f
 pub leftsBy : (ℕ → ℕ) → Table → List ℕ
@@ -45,19 +45,6 @@ pub record Filling (f : ℕ → ℕ) (es : Table) (lefts₀ rights₀ next₀ le
   pub lefts-size : length lefts ≡ length lefts₀
   pub rights-size : length rights ≡ length rights₀
   pub next-size : length next ≡ length next₀
-
--- slices of the same lengths have the same room
-pub room-kept : {lefts rights heads next lefts′ rights′ heads′ next′ : List ℕ} {m : ℕ} → Room lefts rights heads next m
-    → length lefts′ ≡ length lefts → length rights′ ≡ length rights → length heads′ ≡ length heads → length next′ ≡ length next
-    → Room lefts′ rights′ heads′ next′ m
-room-kept r l h k n =
-    record {
-      lefts-fit = rw l (r .lefts-fit);
-      rights-fit = rw h (r .rights-fit);
-      next-fit = rw n (r .next-fit);
-      words = rw l (r .words);
-      all-heads = rw k (r .all-heads);
-    }
 
 module _ (f : ℕ → ℕ) (es : Table) where
   -- entry i has its pair at place i

@@ -13,10 +13,11 @@ use Rattle.layout.specs.Rows.{at, tableOf}
 use Rattle.layout.proofs.Rows.{length-tableOf}
 use Rattle.rows.proofs.Loops.{Passed, all-passed, all-broken}
 use Rattle.sound.specs.Sound.{valuesOk}
-use Rattle.entries.specs.Known.{Named}
-use Rattle.entries.specs.Tests.{kindRight, sameAsRight}
+use Rattle.kinds.specs.Known.{Named}
+use Rattle.kinds.specs.Tests.{kindRight}
+use Rattle.entries.specs.Tests.{sameAsRight}
 use Rattle.entries.proofs.Places.{placeBy, entryOf-placeBy, distinct-places}
-use Rattle.entries.proofs.Rows.{entry-same-as, left-term, right-term}
+use Rattle.kinds.proofs.Rows.{entry-same-as, left-term, right-term}
 
 -- same-as is right where it is the place of the entry's names
 pub same-as-place : {b : Book} {β : Bindings} {names entries : List ℕ} {m : ℕ} → Named b β names entries m → {i : ℕ} → i < m →

@@ -1,21 +1,9 @@
--- The tests of an entry, one by one (document 01, "Areas"). Assumes nothing: these are definitions.
-use mathlib.Core.Bool.{Bool, _&&_}
-use Prim.Native.Nat.{ℕ}
-use lib.ListN.{length}
-use lib.Dec.{eqb, ltb}
-use Rattle.model.specs.Term.{Book, Bindings, root}
-use Rattle.model.specs.Table.{Entry, Table, entry, holds, entryOf}
-use Rattle.model.specs.Area.{kindOk}
+-- The test of an entry's same-as (document 01, "Areas"). Assumes nothing: this is a definition.
+use mathlib.Core.Bool.{Bool}
+use lib.Dec.{eqb}
+use Rattle.model.specs.Term.{Book, Bindings}
+use Rattle.model.specs.Table.{Entry, Table, entryOf}
 
-module _ (b : Book) (β : Bindings) (es : Table) where
-  -- Entry i exists and has the values of l and r.
-  unfoldable pub argumentRight : ℕ → ℕ → ℕ → Bool
-  argumentRight i l r = ltb i (length es) && holds b β l r (entry es i)
-
-  -- The kind is right for what the two sides stand for.
-  unfoldable pub kindRight : Entry → Bool
-  kindRight e = kindOk b β es (e .kind) (root b β (e .left)) (root b β (e .right))
-
-  -- Same-as is the lowest entry with its values.
-  unfoldable pub sameAsRight : Entry → Bool
-  sameAsRight e = eqb (e .sameAs) (entryOf b β es (e .left) (e .right))
+-- Same-as is the lowest entry with its values.
+unfoldable pub sameAsRight : Book → Bindings → Table → Entry → Bool
+sameAsRight b β es e = eqb (e .sameAs) (entryOf b β es (e .left) (e .right))

@@ -4,10 +4,13 @@
 pub mod offsets;
 
 ghost use mathlib.Core.Path.{_≡_};
-ghost use Prim.Native.Nat.{suc, _≤_};
-ghost use lib.ListN.{getD, set};
+ghost use Prim.Native.Nat.{suc, _*_, _<_, _≤_};
+ghost use lib.ListN.{length, getD, set};
 ghost use Rattle.model.specs.Limits.{maxArity, maxSymbol};
+ghost use Rattle.model.specs.Term as Term;
+ghost use Rattle.model.specs.Area.{termWords};
 ghost use Rattle.layout.specs.Counts.{fitsEntry};
+ghost use Rattle.layout.specs.Rows.{nodeOf};
 
 // Bytes in a word.
 pub const WORD_BYTES: usize = 4;
@@ -60,4 +63,16 @@ pub fn note_count(counts: &mut [u8; SYMBOLS], s: usize, count: u8) -> bool
         return true;
     }
     seen == note
+}
+
+// Whether the terms in rows `l` and `r` are applications of one symbol.
+pub fn alike(rows: &[u32], l: usize, r: usize) -> bool
+    requires { ⌜ (termWords * l < length (now rows)) × (termWords * r < length (now rows)) ⌝ }
+    ensures { λ x. ⌜ x ≡ Term.alike (nodeOf (now (rows .entry)) l) (nodeOf (now (rows .entry)) r) ⌝ }
+{
+    let symbol = rows[TERM_WORDS * l];
+    if symbol == 0 {
+        return false;
+    }
+    symbol == rows[TERM_WORDS * r]
 }

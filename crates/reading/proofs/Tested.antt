@@ -15,8 +15,8 @@ use Rattle.sound.specs.Sound.{rowsOk, valuesOk, tableOk, soundLoaded}
 use Rattle.sound.proofs.Facts.{RowFacts}
 use Rattle.sound.proofs.Tests.{row-facts}
 use Rattle.sound.proofs.Chain.{rows-rules}
-use Rattle.entries.specs.Known.{Known}
-use Rattle.entries.proofs.Loaded.{named-loaded, known-loaded}
+use Rattle.kinds.specs.Known.{Known}
+use Rattle.kinds.proofs.Loaded.{named-loaded, known-loaded}
 use Rattle.state.specs.Loading.{Used}
 use Rattle.valued.specs.Valued.{Valued}
 use Rattle.valued.proofs.Values.{front}

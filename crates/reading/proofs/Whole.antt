@@ -21,7 +21,7 @@ use Rattle.sound.specs.Sound.{loaded, headerOk, rowsOk, tableOk, soundLoaded}
 use Rattle.sound.proofs.Tests.{header-facts}
 use Rattle.sound.proofs.Words.{loaded-sized}
 use Rattle.sound.proofs.Theorems.{sound-by-parts, state-by-parts}
-use Rattle.entries.specs.Known as Known
+use Rattle.kinds.specs.Known as Known
 use Rattle.area.specs.Held.{held}
 use Rattle.state.specs.Loading.{Words, Used}
 use Rattle.valued.specs.Valued.{Valued, Room}

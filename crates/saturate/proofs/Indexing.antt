@@ -15,7 +15,7 @@ use Rattle.pairs.specs.Index.{Indexed, noHeads, Pushed}
 use Rattle.pairs.proofs.Growth.{indexed-none}
 use Rattle.entry.specs.Row.{rowOf}
 use Rattle.entry.specs.declared.Entry.{Entry as Row}
-use Rattle.entries.proofs.Names.{SideNames}
+use Rattle.kinds.proofs.Names.{SideNames}
 use Rattle.table.specs.Stands.{Whatever}
 use Rattle.table.proofs.Held.{held-row}
 use Rattle.table.proofs.Names.{names-more}

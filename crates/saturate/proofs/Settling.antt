@@ -14,7 +14,7 @@ use Rattle.layout.specs.Rows.{at}
 use Rattle.pairs.specs.Pairs.{placeOf}
 use Rattle.entry.specs.Row.{rowOf}
 use Rattle.entry.specs.declared.Entry.{Entry as Row}
-use Rattle.entries.proofs.Names.{entryOf-place}
+use Rattle.kinds.proofs.Names.{entryOf-place}
 use Rattle.table.specs.Stands.{HoldsTable, Whatever}
 use Rattle.table.proofs.Held.{held-row, held-set}
 use Rattle.saturate.specs.Steps.{ToSettle}

@@ -9,8 +9,8 @@ use Rattle.model.specs.Term.{Book, Bindings}
 use Rattle.model.specs.Table.{Table, entry, walk}
 use Rattle.model.specs.Step.{turned}
 use Rattle.pairs.specs.Index.{Indexed}
-use Rattle.entries.specs.Known.{Room}
-use Rattle.entries.proofs.Names.{SideNames}
+use Rattle.kinds.specs.Known.{Room}
+use Rattle.kinds.proofs.Names.{SideNames}
 use Rattle.table.specs.Stands.{HoldsTable, KnownNames, KnownTerms, Stands, Reaches}
 use Rattle.saturate.specs.declared.Walked.{Walked}
 

@@ -2,7 +2,7 @@
 use mathlib.Core.List.{List}
 use Prim.Native.Nat.{ℕ, _≤_}
 use native.Mathlib.Omega.{arith}
-use Rattle.entries.specs.Known as Known
+use Rattle.kinds.specs.Known as Known
 
 -- room for more entries is room for fewer
 pub fewer-entries : {lefts rights heads next : List ℕ} {n m : ℕ} → m ≤ n → Known.Room lefts rights heads next n → Known.Room lefts rights heads next m

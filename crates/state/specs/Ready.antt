@@ -9,7 +9,7 @@ use Rattle.model.specs.Area.{soundState, stateOf}
 use Rattle.layout.specs.Rows.{Loaded, loadedState}
 use Rattle.valued.specs.Valued.{Valued, Room}
 use Rattle.sound.specs.Sound.{rowsOk}
-use Rattle.entries.specs.Known as Known
+use Rattle.kinds.specs.Known as Known
 use Rattle.state.specs.Loading.{Sizes, Used}
 
 -- They have room for every state within the limits.

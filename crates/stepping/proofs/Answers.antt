@@ -11,7 +11,7 @@ use Rattle.model.specs.Step.{State, addLine, bind}
 use Rattle.model.specs.Area.{wordSize, toBytes}
 use Rattle.model.specs.Call.{over}
 use Rattle.layout.specs.Rows.{Loaded, loadedWords, loadedState}
-use Rattle.entries.specs.Known.{Room}
+use Rattle.kinds.specs.Known.{Room}
 use Rattle.state.specs.Ready.{Lent, Ready}
 use Rattle.state.proofs.Uses.{ready-facts}
 use Rattle.steps.specs.declared.Stepped.{Stepped}

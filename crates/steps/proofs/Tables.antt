@@ -16,9 +16,9 @@ use Rattle.theory.proofs.Soundness.Facts.{SoundFacts}
 use Rattle.layout.specs.Rows.{Loaded, bookOf, boundOf, loadedState}
 use Rattle.rows.specs.RowTests.{entryRowsOk, zeroFrom}
 use Rattle.sound.proofs.Parts.{Holds}
-use Rattle.entries.specs.Known.{Room}
-use Rattle.entries.proofs.Loaded.{named-loaded, known-loaded}
-use Rattle.entries.proofs.Places.{room-kept}
+use Rattle.kinds.specs.Known.{Room}
+use Rattle.kinds.proofs.Loaded.{named-loaded, known-loaded}
+use Rattle.kinds.proofs.Room.{room-kept}
 use Rattle.valued.specs.Valued.{Valued}
 use Rattle.state.specs.Ready.{Ready}
 use Rattle.valued.proofs.Values.{front}

@@ -9,7 +9,7 @@ use lib.Seq.{getD-append-seam, getD-set-same, getD-set-other}
 use Rattle.model.specs.Term.{Book, Bindings, name}
 use Rattle.model.specs.Table.{Entry, Table, holeAt, entry}
 use Rattle.theory.proofs.Table.Search.{Extends, lt-or-le}
-use Rattle.entries.proofs.Names.{SideNames}
+use Rattle.kinds.proofs.Names.{SideNames}
 
 -- Entry i of a table has terms for its sides, and the lists hold their names.
 record Sided (b : Book) (β : Bindings) (es : Table) (ls rs : List ℕ) (i : ℕ) : Type 0 where

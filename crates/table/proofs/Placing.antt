@@ -18,7 +18,7 @@ use Rattle.pairs.specs.Pairs.{placeOf}
 use Rattle.pairs.specs.Index.{Pushed}
 use Rattle.entry.specs.Row.{rowOf}
 use Rattle.entry.specs.declared.Entry.{Entry}
-use Rattle.entries.proofs.Names.{SideNames, entryOf-place}
+use Rattle.kinds.proofs.Names.{SideNames, entryOf-place}
 use Rattle.table.specs.Stands.{HoldsTable, Stands, Reaches}
 use Rattle.table.specs.Steps.{ToPlace, IsPlaced}
 use Rattle.table.proofs.Held.{held-more}

@@ -17,11 +17,12 @@ use Rattle.theory.proofs.Area.Rows.{kindArguments, width-entry}
 use Rattle.theory.proofs.Table.Place.{grown, turn-length, turn-grown, placeAll-longer}
 use Rattle.layout.specs.Rows.{at, nodeOf}
 use Rattle.layout.proofs.Rows.{node-app}
+use Rattle.layout.proofs.Symbols.{left-applied, right-applied}
 use Rattle.entry.specs.Row.{rowOf}
 use Rattle.entry.specs.declared.Entry.{Entry as Row}
-use Rattle.entries.specs.Known.{Held}
-use Rattle.entries.proofs.Rows.{formed, term-row, row-end}
-use Rattle.entries.proofs.EntryKind.{left-applied, right-applied, arguments-known}
+use Rattle.kinds.specs.Known.{Held}
+use Rattle.kinds.proofs.Rows.{formed, term-row, row-end}
+use Rattle.kinds.proofs.EntryKind.{arguments-known}
 use Rattle.table.specs.Stands.{Stands, Reaches}
 use Rattle.table.specs.Steps.{ToPlaceAll, ArePlaced, turnedRow, IsTurned}
 use Rattle.table.specs.declared.Arguments.{Arguments}

@@ -15,7 +15,7 @@ use Rattle.theory.proofs.Table.WalkLength.{not-both, visit-idle}
 use Rattle.layout.specs.Rows.{at, nodeOf}
 use Rattle.entry.specs.Row.{rowOf}
 use Rattle.entry.specs.declared.Entry.{Entry as Row}
-use Rattle.entries.proofs.Rows.{row-end, root-lt, root-row}
+use Rattle.kinds.proofs.Rows.{row-end, root-lt, root-row}
 use Rattle.table.specs.Stands.{Reaches}
 use Rattle.table.specs.Steps.{ToVisit, IsVisited}
 use Rattle.table.specs.declared.Visited.{Visited}

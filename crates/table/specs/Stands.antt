@@ -11,8 +11,8 @@ use Rattle.model.specs.Term.{Book, Bindings}
 use Rattle.model.specs.Table.{Table, entry}
 use Rattle.model.specs.Area.{entryRowWords, entryWords}
 use Rattle.pairs.specs.Index.{Indexed}
-use Rattle.entries.specs.Known.{Named, Known, Room}
-use Rattle.entries.proofs.Names.{SideNames}
+use Rattle.kinds.specs.Known.{Named, Known, Room}
+use Rattle.kinds.proofs.Names.{SideNames}
 
 -- Rows that hold a table: the rows of its entries, each of one width, and zeros behind them.
 pub record HoldsTable (rows : List ℕ) (es : Table) : Type 0 where

@@ -14,7 +14,7 @@ use Rattle.model.specs.Area.{termWords, entryRowWords}
 use Rattle.layout.specs.Rows.{at}
 use Rattle.entry.specs.Row.{rowOf}
 use Rattle.entry.specs.declared.Entry.{Entry}
-use Rattle.entries.specs.Known.{Terms}
+use Rattle.kinds.specs.Known.{Terms}
 use Rattle.table.specs.Stands.{KnownNames, KnownTerms, Stands, Reaches}
 use Rattle.table.specs.declared.Placed.{Placed}
 use Rattle.table.specs.declared.Arguments.{Arguments}

@@ -194,7 +194,7 @@ pub fn visit(
     let right = e.right as usize;
     let l = roots[left] as usize;
     let r = roots[right] as usize;
-    if !entries::alike(rows, l, r) {
+    if !layout::alike(rows, l, r) {
         return Visited {
             turned: false,
             count: m,

@@ -11,9 +11,9 @@ use lib.ListN.{length}
 use Rattle.layout.specs.Rows.{tableOf}
 use Rattle.layout.proofs.Rows.{length-tableOf}
 use Rattle.rows.proofs.Loops.{Passed}
-use Rattle.entries.specs.Known.{Room}
+use Rattle.kinds.specs.Known.{Room}
 use Rattle.entries.proofs.Places.{Filling, placeBy, filling-none, filled-place, push-room, filling-more}
-use Rattle.entries.proofs.Rows.{entry-left, entry-right}
+use Rattle.kinds.proofs.Rows.{entry-left, entry-right}
 use Rattle.entries.proofs.Table.{ownPlace, all-distinct, not-distinct}
 use Rattle.entries.proofs.distinct_ok.Statement.{statement}
 use Rattle.entries.proofs.distinct_ok.Tie as tie

@@ -2,7 +2,7 @@
 use mathlib.Core.Path.{sym, _∙_}
 use borrow.Author.Needs.{needs}
 use borrow.Author.Tests.{not-true, not-false}
-use Rattle.entries.proofs.Places.{room-kept}
+use Rattle.kinds.proofs.Room.{room-kept}
 use Rattle.entries.proofs.Table.{table-values}
 use Rattle.entries.proofs.table_ok.Statement.{statement}
 use Rattle.entries.proofs.table_ok.Tie as tie

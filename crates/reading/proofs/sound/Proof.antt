@@ -17,8 +17,8 @@ use Rattle.theory.proofs.Lists.Laws.{true-T}
 use Rattle.layout.specs.Limits.{limitsOf}
 use Rattle.layout.specs.Rows.{Loaded, bookOf, boundOf}
 use Rattle.sound.specs.Sound.{headerOk, rowsOk}
-use Rattle.entries.specs.Known.{Known}
-use Rattle.entries.proofs.Places.{room-kept}
+use Rattle.kinds.specs.Known.{Known}
+use Rattle.kinds.proofs.Room.{room-kept}
 use Rattle.area.specs.Held.{held}
 use Rattle.valued.specs.Valued.{Valued}
 use Rattle.reading.proofs.Tested.{good-terms, table-known, rows-refused, cycle-refused, table-decides}

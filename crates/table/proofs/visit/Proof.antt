@@ -4,7 +4,7 @@ use mathlib.Core.Path.{sym, _∙_}
 use native.Mathlib.Omega.{arith}
 use borrow.Author.Needs.{needs}
 use borrow.Author.Tests.{not-true, not-false}
-use Rattle.entries.proofs.Rows.{root-lt}
+use Rattle.kinds.proofs.Rows.{root-lt}
 use Rattle.table.proofs.Placing.{few-entries}
 use Rattle.table.proofs.Turning.{left-app, to-place-all, turn-reaches}
 use Rattle.table.proofs.Visiting.{left-lt, right-lt, left-end, right-end, visit-common, visit-unlike, turnable, visit-turned}

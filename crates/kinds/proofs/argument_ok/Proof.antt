@@ -1,11 +1,11 @@
--- `entries::argument_ok` meets its contract: each return follows the tests that lead there. Assumes nothing.
+-- `kinds::argument_ok` meets its contract: each return follows the tests that lead there. Assumes nothing.
 use mathlib.Core.Path.{sym, _∙_}
 use native.Mathlib.Omega.{arith}
 use borrow.Author.Needs.{needs}
 use borrow.Author.Tests.{eq-eqb, ne-eqb}
-use Rattle.entries.proofs.Rows.{left-lt, right-lt, argument-names, argument-none}
-use Rattle.entries.proofs.argument_ok.Statement.{statement}
-use Rattle.entries.proofs.argument_ok.Tie as tie
+use Rattle.kinds.proofs.Rows.{left-lt, right-lt, argument-names, argument-none}
+use Rattle.kinds.proofs.argument_ok.Statement.{statement}
+use Rattle.kinds.proofs.argument_ok.Tie as tie
 
 -- there is no such entry
 returns : tie.Need-returns

@@ -1,4 +1,4 @@
--- `entries::kind_ok` meets its contract: the sides of the entry are terms, and so is what they stand for. Assumes nothing.
+-- `kinds::kind_ok` meets its contract: the sides of the entry are terms, and so is what they stand for. Assumes nothing.
 use mathlib.Core.Path.{sym, _∙_}
 use Prim.Native.Nat.{_+_, _*_, _<_}
 use native.Mathlib.Omega.{arith}
@@ -7,9 +7,9 @@ use denote.Ref.{now}
 use lib.ListN.{length}
 use Rattle.model.specs.Area.{entryRowWords}
 use Rattle.layout.specs.Rows.{at}
-use Rattle.entries.proofs.Rows.{left-lt, right-lt, root-lt, kind-roots}
-use Rattle.entries.proofs.kind_ok.Statement.{statement}
-use Rattle.entries.proofs.kind_ok.Tie as tie
+use Rattle.kinds.proofs.Rows.{left-lt, right-lt, root-lt, kind-roots}
+use Rattle.kinds.proofs.kind_ok.Statement.{statement}
+use Rattle.kinds.proofs.kind_ok.Tie as tie
 
 -- the sides are terms
 left : (c : tie.Start) → at (now (c .args .entries)) (entryRowWords * c .args .i) < length (c .pre .0 .book)

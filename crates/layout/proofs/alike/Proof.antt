@@ -1,8 +1,8 @@
--- `entries::alike` meets its contract: each return follows the test that leads there. Assumes nothing.
+-- `layout::alike` meets its contract: each return follows the test that leads there. Assumes nothing.
 use borrow.Author.Needs.{needs}
-use Rattle.entries.proofs.EntryKind.{alike-variable, alike-symbols}
-use Rattle.entries.proofs.alike.Statement.{statement}
-use Rattle.entries.proofs.alike.Tie as tie
+use Rattle.layout.proofs.Symbols.{alike-variable, alike-symbols}
+use Rattle.layout.proofs.alike.Statement.{statement}
+use Rattle.layout.proofs.alike.Tie as tie
 
 returns : tie.Need-returns
 returns c = alike-variable _ _ _ (c .if1 .taken)

@@ -1,4 +1,4 @@
--- `entries::kind_fits` meets its contract: each return follows the tests that lead there. Assumes nothing.
+-- `kinds::kind_fits` meets its contract: each return follows the tests that lead there. Assumes nothing.
 use mathlib.Core.Path.{_≡_, sym, _∙_}
 use mathlib.Core.Bool.{true}
 use Prim.Native.Nat.{_+_, _*_, _≤_}
@@ -11,10 +11,11 @@ use lib.ListN.{length}
 use Rattle.model.specs.Term.{alike}
 use Rattle.model.specs.Area.{termWords, entryRowWords}
 use Rattle.layout.specs.Rows.{at, nodeOf}
-use Rattle.entries.proofs.Rows.{entry-kind, arguments-end, row-end}
-use Rattle.entries.proofs.EntryKind.{left-applied, unlike-kind, hole-kind, common-kind, arguments-known}
-use Rattle.entries.proofs.kind_fits.Statement.{statement}
-use Rattle.entries.proofs.kind_fits.Tie as tie
+use Rattle.layout.proofs.Symbols.{left-applied}
+use Rattle.kinds.proofs.Rows.{entry-kind, arguments-end, row-end}
+use Rattle.kinds.proofs.EntryKind.{unlike-kind, hole-kind, common-kind, arguments-known}
+use Rattle.kinds.proofs.kind_fits.Statement.{statement}
+use Rattle.kinds.proofs.kind_fits.Tie as tie
 
 -- the start of the function, from its first test
 abbrev start : tie.Else1 → tie.Start

@@ -1,4 +1,4 @@
--- `entries::kinds_ok` meets its contract: the loop's invariant says that the kinds of the entries before `i` are right, and
+-- `kinds::kinds_ok` meets its contract: the loop's invariant says that the kinds of the entries before `i` are right, and
 -- the measure is the entries that are left. Assumes nothing.
 use mathlib.Core.Path.{sym, _∙_}
 use Prim.Native.Nat.{_-_}
@@ -10,10 +10,10 @@ use Rattle.model.specs.Table.{holeAt, entry}
 use Rattle.layout.specs.Rows.{tableOf}
 use Rattle.layout.proofs.Rows.{length-tableOf}
 use Rattle.rows.proofs.Loops.{Passed, each-passed, one-failed}
-use Rattle.entries.specs.Known.{Known}
-use Rattle.entries.specs.Tests.{kindRight}
-use Rattle.entries.proofs.kinds_ok.Statement.{statement}
-use Rattle.entries.proofs.kinds_ok.Tie as tie
+use Rattle.kinds.specs.Known.{Known}
+use Rattle.kinds.specs.Tests.{kindRight}
+use Rattle.kinds.proofs.kinds_ok.Statement.{statement}
+use Rattle.kinds.proofs.kinds_ok.Tie as tie
 
 abbrev Inv-loop : tie.InvT-loop
 Inv-loop rows roots names entries m i₀ i =

@@ -15,7 +15,7 @@ use Rattle.theory.proofs.Soundness.Facts.{Has}
 use Rattle.theory.proofs.Soundness.Table.{has-facts, argument-facts, facts-argument}
 use Rattle.theory.proofs.Values.Equations.{eq-holds}
 use Rattle.rows.proofs.Loops.{Passed}
-use Rattle.entries.specs.Tests.{argumentRight}
+use Rattle.kinds.specs.Tests.{argumentRight}
 
 module _ (b : Book) (β : Bindings) (es : Table) where
   -- the test of one says that the entry has the values

@@ -22,9 +22,9 @@ use Rattle.layout.proofs.Rows.{length-tableOf, getD-bookOf, getD-tableOf, node-
 use Rattle.rows.specs.RowTests.{zeroFrom, entryRowOk, entryRowsOk}
 use Rattle.sound.proofs.Facts.{EntryRow}
 use Rattle.sound.proofs.Tests.{entry-row}
-use Rattle.entries.specs.Known.{Named, Held, Known, Terms}
-use Rattle.entries.specs.Tests.{argumentRight, kindRight}
-use Rattle.entries.proofs.Names.{holds-names}
+use Rattle.kinds.specs.Known.{Named, Held, Known, Terms}
+use Rattle.kinds.specs.Tests.{argumentRight, kindRight}
+use Rattle.kinds.proofs.Names.{holds-names}
 
 -- the parts of entry i are words of its row
 module _ (entries : List ℕ) (m i : ℕ) (l : i < m) where

@@ -16,7 +16,7 @@ use Rattle.theory.proofs.Soundness.Table.{eq-T}
 use Rattle.layout.specs.Rows.{at, bookOf, boundOf, GoodTerms}
 use Rattle.layout.proofs.Rows.{length-bookOf, length-boundOf}
 use Rattle.rows.specs.RowTests.{entryRowsOk}
-use Rattle.entries.specs.Known.{Named, Known}
+use Rattle.kinds.specs.Known.{Named, Known}
 
 -- what f gives for n numbers stands at the front of a list
 module _ (f : ℕ → ℕ) (n : ℕ) (ys : List ℕ) {xs : List ℕ} (e : xs ≡ map f (from 0 n) ++ ys) where

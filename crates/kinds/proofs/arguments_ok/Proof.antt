@@ -1,4 +1,4 @@
--- `entries::arguments_ok` meets its contract: the loop's invariant says that the entries before place `j` are right, and the
+-- `kinds::arguments_ok` meets its contract: the loop's invariant says that the entries before place `j` are right, and the
 -- measure is the entries that are left. Assumes nothing.
 use mathlib.Core.Path.{sym, _∙_}
 use Prim.Native.Nat.{_-_}
@@ -10,10 +10,10 @@ use lib.ListN.{length}
 use Rattle.model.specs.Term.{Book, Bindings}
 use Rattle.layout.specs.Rows.{tableOf}
 use Rattle.rows.proofs.Loops.{Passed}
-use Rattle.entries.specs.Known.{Named, Terms}
-use Rattle.entries.proofs.Arguments.{argumentAt, other-left, other-right, argument-failed, arguments-passed}
-use Rattle.entries.proofs.arguments_ok.Statement.{statement}
-use Rattle.entries.proofs.arguments_ok.Tie as tie
+use Rattle.kinds.specs.Known.{Named, Terms}
+use Rattle.kinds.proofs.Arguments.{argumentAt, other-left, other-right, argument-failed, arguments-passed}
+use Rattle.kinds.proofs.arguments_ok.Statement.{statement}
+use Rattle.kinds.proofs.arguments_ok.Tie as tie
 
 abbrev Inv-loop : tie.InvT-loop
 Inv-loop names entries m args ls rs j₀ j =

@@ -1,0 +1,6 @@
+pub mod Names
+pub mod Rows
+pub mod Arguments
+pub mod EntryKind
+pub mod Loaded
+pub mod Room

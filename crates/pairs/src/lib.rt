@@ -40,13 +40,13 @@ pub fn clear(heads: &mut [u32])
 
 // The first place of (a, b) among the first `count` pairs, or else `count`, the next free place; and the cell where the way ends.
 fn search(
+    a: u32,
+    b: u32,
     lefts: &[u32],
     rights: &[u32],
     heads: &[u32],
     next: &[u32],
     count: usize,
-    a: u32,
-    b: u32,
 ) -> Found
     requires { ⌜ Indexed (now lefts) (now rights) (now heads) (now next) count ⌝ }
     ensures { λ r. ⌜ Searched (now (lefts .entry)) (now (rights .entry)) (now (heads .entry)) (now (next .entry)) count a b r ⌝ }
@@ -84,7 +84,7 @@ pub fn find(
     requires { ⌜ Indexed (now lefts) (now rights) (now heads) (now next) count ⌝ }
     ensures { λ r. ⌜ r ≡ placeOf (now (lefts .entry)) (now (rights .entry)) count a b ⌝ }
 {
-    let found = search(lefts, rights, heads, next, count, a, b);
+    let found = search(a, b, lefts, rights, heads, next, count);
     found.place
 }
 
@@ -114,7 +114,7 @@ pub fn push(
     requires room { ⌜ (count < length (now lefts)) × (count < length (now rights)) × (2 * count + 1 < length (now next)) ⌝ }
     ensures { λ r. ⌜ Pushed (now (lefts .entry)) (now (rights .entry)) (now (lefts .exit)) (now (rights .exit)) (now (heads .exit)) (now (next .exit)) count a b r ⌝ }
 {
-    let found = search(lefts, rights, heads, next, count, a, b);
+    let found = search(a, b, lefts, rights, heads, next, count);
     lefts[count] = a;
     rights[count] = b;
     next[2 * count] = 0;

@@ -26,7 +26,7 @@ use Rattle.sound.proofs.Tests.{row-facts}
 use Rattle.kinds.proofs.Room.{room-kept}
 use Rattle.state.proofs.Rooms.{fewer-terms, fewer-entries}
 use Rattle.state.proofs.Uses.{ready-facts, ready-holds}
-use Rattle.table.specs.Stands.{HoldsTable}
+use Rattle.placing.specs.Stands.{HoldsTable}
 use Rattle.steps.specs.Stepped.{after, Leaves, Gives}
 use Rattle.steps.specs.declared.Stepped.{Stepped}
 use Rattle.steps.proofs.Tables.{held-table}

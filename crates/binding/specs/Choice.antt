@@ -17,7 +17,7 @@ use Rattle.area.specs.declared.Header.{Header}
 use Rattle.area.specs.Held.{held}
 use Rattle.kinds.specs.Known as Known
 use Rattle.state.specs.Ready.{Room, Lent, Ready}
-use Rattle.table.specs.Stands.{HoldsTable}
+use Rattle.placing.specs.Stands.{HoldsTable}
 use Rattle.steps.specs.declared.Stepped.{Stepped}
 
 -- The slices hold a sound state with its lines, within the limits, and are lent room for every such state.

@@ -22,7 +22,7 @@ use Rattle.kinds.proofs.Room.{room-kept}
 use Rattle.state.specs.Ready.{Valued, Ready}
 use Rattle.state.proofs.Values.{front}
 use Rattle.state.proofs.Rooms.{fewer-entries}
-use Rattle.table.specs.Stands.{HoldsTable, KnownNames, KnownTerms, Stands}
+use Rattle.placing.specs.Stands.{HoldsTable, KnownNames, KnownTerms, Stands}
 use Rattle.table.proofs.Sizes.{SameSizes}
 use Rattle.saturate.specs.Steps.{ToIndex, IsIndexed}
 

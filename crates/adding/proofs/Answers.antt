@@ -18,10 +18,10 @@ use Rattle.sound.proofs.Parts.{Holds}
 use Rattle.kinds.specs.Known.{Room}
 use Rattle.state.specs.Ready.{Ready}
 use Rattle.state.proofs.Uses.{ready-facts, ready-sized, ready-holds}
-use Rattle.table.specs.Stands.{HoldsTable, GivenTable, Whatever}
-use Rattle.table.specs.declared.Placed.{Placed}
+use Rattle.placing.specs.Stands.{HoldsTable, GivenTable, Whatever}
+use Rattle.placing.specs.declared.Placed.{Placed}
 use Rattle.table.proofs.Lists.{padded-set}
-use Rattle.table.proofs.Placing.{few-entries}
+use Rattle.placing.proofs.Placing.{few-entries}
 use Rattle.steps.specs.declared.Stepped.{Stepped}
 use Rattle.steps.specs.Stepped.{Leaves}
 use Rattle.steps.proofs.Tables.{ready-known, to-index}

@@ -9,9 +9,9 @@ use lib.ListN.{length}
 use Rattle.model.specs.Term.{Book, Bindings}
 use Rattle.model.specs.Table.{Table, place}
 use Rattle.theory.proofs.Table.Place.{walk-extends}
-use Rattle.table.specs.Stands.{GivenTable, Whatever}
-use Rattle.table.specs.Steps.{ToPlace, IsPlaced}
-use Rattle.table.specs.declared.Placed.{Placed}
+use Rattle.placing.specs.Stands.{GivenTable, Whatever}
+use Rattle.placing.specs.Steps.{ToPlace, IsPlaced}
+use Rattle.placing.specs.declared.Placed.{Placed}
 use Rattle.table.proofs.Sizes.{SameSizes}
 use Rattle.saturate.specs.Steps.{ToIndex, IsIndexed, ToWalk, IsWalked}
 use Rattle.saturate.specs.declared.Walked.{Walked}

@@ -15,8 +15,8 @@ use Rattle.area.specs.declared.Header.{Header}
 use Rattle.area.specs.Held.{held}
 use Rattle.kinds.specs.Known.{Room}
 use Rattle.state.specs.Ready.{Ready}
-use Rattle.table.specs.Stands.{KnownTerms, Reaches}
-use Rattle.table.specs.declared.Placed.{Placed}
+use Rattle.placing.specs.Stands.{KnownTerms, Reaches}
+use Rattle.placing.specs.declared.Placed.{Placed}
 use Rattle.saturate.specs.Steps.{ToIndex}
 use Rattle.steps.specs.declared.Stepped.{Stepped}
 use Rattle.steps.specs.Stepped.{after, Gives}

@@ -3,12 +3,12 @@
 ghost use Rattle.theory.specs.Modest.{Modest};
 ghost use Rattle.layout.specs.Limits.{limitsOf};
 ghost use Rattle.kinds.specs.Known.{Room};
-ghost use Rattle.table.specs.Stands.{GivenTable, Whatever};
+ghost use Rattle.placing.specs.Stands.{GivenTable, Whatever};
 ghost use Rattle.adding.specs.Adding.{ToGrow, IsGrown, GivenState, AddsLine};
 use area::Header;
 use layout::Limits;
+use placing::Placed;
 use steps::Stepped;
-use table::Placed;
 
 // Places the terms `l` and `r` in the loaded table of `m` entries and walks it through. `ls`, `rs`, `hs` and `ns` are
 // scratch.
@@ -31,7 +31,7 @@ fn grow(
         (IsGrown (now (entries .exit)) (now (ls .exit)) (now (rs .exit)) (now (hs .exit)) (now (ns .exit)) cap l r p) ⌝ }
 {
     saturate::index(names, entries, ls, rs, hs, ns, m);
-    let p = table::place(names, entries, cap, m, l, r, ls, rs, hs, ns);
+    let p = placing::place(names, entries, cap, m, l, r, ls, rs, hs, ns);
     if p.full {
         return p;
     }

@@ -27,7 +27,7 @@ use Rattle.kinds.proofs.Room.{room-kept}
 use Rattle.valued.proofs.Rooms.{fewer-terms}
 use Rattle.state.proofs.Rooms.{fewer-entries}
 use Rattle.state.proofs.Uses.{ready-facts, ready-holds}
-use Rattle.table.specs.Stands.{HoldsTable}
+use Rattle.placing.specs.Stands.{HoldsTable}
 use Rattle.steps.specs.Stepped.{after, Leaves, Gives}
 use Rattle.steps.specs.declared.Stepped.{Stepped}
 use Rattle.steps.proofs.Tables.{held-table}

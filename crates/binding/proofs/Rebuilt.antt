@@ -13,7 +13,7 @@ use Rattle.area.specs.declared.Header.{Header}
 use Rattle.kinds.specs.Known.{Room}
 use Rattle.kinds.proofs.Room.{room-kept}
 use Rattle.valued.specs.Valued.{Valued}
-use Rattle.table.specs.Stands.{Whatever}
+use Rattle.placing.specs.Stands.{Whatever}
 use Rattle.table.proofs.Sizes.{SameSizes}
 use Rattle.saturate.specs.Steps.{ToWalk, ToIndex, IsIndexed}
 use Rattle.state.proofs.Rooms.{fewer-entries}

@@ -11,8 +11,8 @@ use Rattle.model.specs.Table.{Table, isHole, walk, settle}
 use Rattle.model.specs.Step.{turned}
 use Rattle.theory.proofs.Table.Place.{walk-extends}
 use Rattle.area.specs.declared.Header.{Header}
-use Rattle.table.specs.Stands.{HoldsTable, GivenTable, Whatever}
-use Rattle.table.proofs.Placing.{few-entries}
+use Rattle.placing.specs.Stands.{HoldsTable, GivenTable, Whatever}
+use Rattle.placing.proofs.Placing.{few-entries}
 use Rattle.saturate.specs.Steps.{ToWalk, IsWalked, ToSettle}
 use Rattle.saturate.specs.declared.Walked.{Walked}
 use Rattle.saturate.proofs.Turned.{at-most-one}

@@ -18,7 +18,7 @@ use Rattle.area.specs.Held.{held}
 use Rattle.kinds.specs.Known as Known
 use Rattle.valued.specs.Valued.{Room}
 use Rattle.state.specs.Ready.{Lent, Ready}
-use Rattle.table.specs.Stands.{HoldsTable}
+use Rattle.placing.specs.Stands.{HoldsTable}
 use Rattle.steps.specs.declared.Stepped.{Stepped}
 
 -- The slices hold a sound state with its lines, within the limits, and are lent room for every such state.

@@ -11,7 +11,7 @@ ghost use Rattle.model.specs.Area.{termWords};
 ghost use Rattle.layout.specs.Rows.{nodeOf, bookOf, bindingOf, boundOf, tableOf, loadedState};
 ghost use Rattle.area.specs.Held.{held};
 ghost use Rattle.values.specs.Reading.{Listed};
-ghost use Rattle.table.specs.Stands.{GivenTable, Whatever};
+ghost use Rattle.placing.specs.Stands.{GivenTable, Whatever};
 ghost use Rattle.saturate.specs.Steps.{ToWalk};
 ghost use Rattle.steps.specs.Stepped.{after, Gives};
 ghost use Rattle.binding.specs.Choice.{Asked, Given, earlyRefusal, IsSettled, ToRebuild};

@@ -16,9 +16,9 @@ use Rattle.pairs.proofs.Growth.{indexed-none}
 use Rattle.entry.specs.Row.{rowOf}
 use Rattle.entry.specs.declared.Entry.{Entry as Row}
 use Rattle.kinds.proofs.Names.{SideNames}
-use Rattle.table.specs.Stands.{Whatever}
-use Rattle.table.proofs.Held.{held-row}
-use Rattle.table.proofs.Names.{names-more}
+use Rattle.placing.specs.Stands.{Whatever}
+use Rattle.placing.proofs.Held.{held-row}
+use Rattle.placing.proofs.Names.{names-more}
 use Rattle.table.proofs.Sizes.{SameSizes, same-sizes, sizes-trans}
 use Rattle.table.proofs.Turning.{row-left, row-right}
 use Rattle.saturate.specs.Steps.{ToIndex, IsIndexed}

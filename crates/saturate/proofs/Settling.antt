@@ -15,8 +15,8 @@ use Rattle.pairs.specs.Pairs.{placeOf}
 use Rattle.entry.specs.Row.{rowOf}
 use Rattle.entry.specs.declared.Entry.{Entry as Row}
 use Rattle.kinds.proofs.Names.{entryOf-place}
-use Rattle.table.specs.Stands.{HoldsTable, Whatever}
-use Rattle.table.proofs.Held.{held-row, held-set}
+use Rattle.placing.specs.Stands.{HoldsTable, Whatever}
+use Rattle.placing.proofs.Held.{held-row, held-set}
 use Rattle.saturate.specs.Steps.{ToSettle}
 
 -- A row and an entry with another same-as.

@@ -15,10 +15,10 @@ use Rattle.model.specs.Table.{isHole, Table, entry, turn, visit, walk}
 use Rattle.model.specs.Step.{turned}
 use Rattle.theory.proofs.Table.Place.{lt-or-le, grown, placeAll-old, placeAll-longer, turn-length, turn-other, visit-cases, visit-extends, Walked, on, over, walk-cases, walk-extends}
 use Rattle.theory.proofs.Table.WalkLength.{toTurn, walk-split, walk-idle, walk-longer}
-use Rattle.table.specs.Stands.{Stands, GivenTable, Whatever}
+use Rattle.placing.specs.Stands.{Stands, GivenTable, Whatever}
 use Rattle.table.specs.Steps.{ToVisit, IsVisited}
 use Rattle.table.specs.declared.Visited.{Visited}
-use Rattle.table.proofs.Placing.{few-entries, stands-reaches}
+use Rattle.placing.proofs.Placing.{few-entries, stands-reaches}
 use Rattle.table.proofs.Sizes.{SameSizes, same-sizes, sizes-trans}
 use Rattle.saturate.specs.Steps.{ToWalk, IsWalked}
 use Rattle.saturate.specs.declared.Walked.{Walked as Answer}

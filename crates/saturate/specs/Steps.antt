@@ -11,7 +11,7 @@ use Rattle.model.specs.Step.{turned}
 use Rattle.pairs.specs.Index.{Indexed}
 use Rattle.kinds.specs.Known.{Room}
 use Rattle.kinds.proofs.Names.{SideNames}
-use Rattle.table.specs.Stands.{HoldsTable, KnownNames, KnownTerms, Stands, Reaches}
+use Rattle.placing.specs.Stands.{HoldsTable, KnownNames, KnownTerms, Stands, Reaches}
 use Rattle.saturate.specs.declared.Walked.{Walked}
 
 -- A table of m entries to be walked through, and walked through: how many of its entries turned.

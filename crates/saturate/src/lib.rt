@@ -2,7 +2,7 @@
 // table"). The slices are those of crate `table`.
 
 ghost use Rattle.model.specs.Table.{settle};
-ghost use Rattle.table.specs.Stands.{HoldsTable, GivenTable, Whatever};
+ghost use Rattle.placing.specs.Stands.{HoldsTable, GivenTable, Whatever};
 ghost use Rattle.saturate.specs.Steps.{ToWalk, IsWalked, ToIndex, IsIndexed, ToSettle};
 
 // How many of the old entries turned, the number of entries after the walk, and whether it would need more than the capacity.

@@ -10,7 +10,7 @@ use Rattle.model.specs.Step.{State, Answer, refused, accepted}
 use Rattle.model.specs.Area.{entryRowWords, entryWords}
 use Rattle.layout.specs.Rows.{Loaded, Sized}
 use Rattle.sound.proofs.Parts.{Holds, whole}
-use Rattle.table.specs.Stands.{HoldsTable}
+use Rattle.placing.specs.Stands.{HoldsTable}
 use Rattle.steps.specs.Stepped.{Leaves, Gives}
 
 -- the rows of a table, for its capacity

@@ -23,7 +23,7 @@ use Rattle.valued.specs.Valued.{Valued}
 use Rattle.state.specs.Ready.{Ready}
 use Rattle.valued.proofs.Values.{front}
 use Rattle.state.proofs.Rooms.{fewer-entries}
-use Rattle.table.specs.Stands.{HoldsTable, KnownNames, KnownTerms, Stands}
+use Rattle.placing.specs.Stands.{HoldsTable, KnownNames, KnownTerms, Stands}
 use Rattle.table.proofs.Sizes.{SameSizes}
 use Rattle.saturate.specs.Steps.{ToIndex, IsIndexed}
 

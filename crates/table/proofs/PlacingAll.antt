@@ -2,25 +2,35 @@
 use mathlib.Core.Path.{_≡_, refl, ap, sym, _∙_}
 use mathlib.Core.List.{List, [], _∷_, _++_}
 use mathlib.Core.Bool.{true, false, true≢false}
-use Prim.Native.Nat.{ℕ, _+_, _≤_, _<_}
+use Prim.Native.Nat.{ℕ, _+_, _*_, _≤_, _<_}
 use native.Mathlib.Numerals.{add-one}
 use native.Mathlib.Omega.{arith}
 use borrow.Author.Tests.{lt-ltb, ltb-true}
-use lib.ListN.{length, take, drop, set, replicate, take-append-drop}
-use lib.Seq.{take-all, take-suc, length-take-le}
+use lib.ListN.{length, take, drop, set, replicate, length-drop, take-append-drop}
+use lib.Seq.{take-all, take-suc, length-take-le, getD-take, getD-drop}
 use Rattle.model.specs.Limits.{maxArity}
 use Rattle.model.specs.Lists.{pairwise, padded}
 use Rattle.model.specs.Term.{Book, Bindings}
 use Rattle.model.specs.Table.{Table, entryOf, place, placeAll}
+use Rattle.model.specs.Area.{termWords}
 use Rattle.theory.proofs.Lists.Laws.{length-pairwise}
 use Rattle.theory.proofs.Table.Place.{Extends, entryOf-extends, placeAll-extends, placeAll-longer, placeAll-has, place-one}
 use Rattle.layout.specs.Rows.{at}
-use Rattle.table.specs.Stands.{Stands, GivenTable, Whatever}
-use Rattle.table.specs.Steps.{ToPlace, IsPlaced, ToPlaceAll, ArePlaced}
-use Rattle.table.specs.declared.Placed.{Placed}
+use Rattle.placing.specs.Stands.{Stands, GivenTable, Whatever}
+use Rattle.placing.specs.Steps.{ToPlace, IsPlaced}
+use Rattle.table.specs.Steps.{argumentsAt, ToPlaceAll, ArePlaced}
+use Rattle.placing.specs.declared.Placed.{Placed}
 use Rattle.table.proofs.Lists.{pairwise-append, placeAll-append, pairwise-alike, padded-set}
 use Rattle.table.proofs.Sizes.{SameSizes, same-sizes, sizes-trans}
-use Rattle.table.proofs.Placing.{stands-reaches}
+use Rattle.placing.proofs.Placing.{stands-reaches}
+
+-- the words behind the count in the row of a term
+module _ (rows : List ℕ) (t : ℕ) (fits : termWords * t + 2 + at rows (termWords * t + 1) ≤ length rows) where
+  pub length-row : length (argumentsAt rows t) ≡ at rows (termWords * t + 1)
+  length-row = length-take-le (at rows (termWords * t + 1)) (drop (termWords * t + 2) rows) (rw length-drop (omega arith))
+
+  pub row-at : (j : ℕ) → j < at rows (termWords * t + 1) → at rows (termWords * t + 2 + j) ≡ at (argumentsAt rows t) j
+  row-at j h = rw (getD-take, getD-drop)
 
 -- The table with the first j pairs, and the entries of those pairs in it.
 abbrev pub upTo : List ℕ → List ℕ → ℕ → Book → Bindings → Table → Table
@@ -94,31 +104,36 @@ module _ (ls rs : List ℕ) (e : length ls ≡ length rs) (j : ℕ) (t : j < len
 
 module _ {names entries₀ lefts₀ rights₀ heads₀ next₀ : List ℕ} {capacity m : ℕ} {ls rs entries lefts rights heads next numbers : List ℕ} {count j : ℕ}
     (i : PlacingAll names entries₀ lefts₀ rights₀ heads₀ next₀ capacity m ls rs entries lefts rights heads next numbers count j) where
-  module _ (t : j < length ls) where
+  module _ (t : j < length ls) {x y : ℕ} (left : x ≡ at ls j) (right : y ≡ at rs j) where
     -- what the next pair asks
     to-place : (b : Book) (β : Bindings) (es : Table) → ToPlaceAll names entries₀ lefts₀ rights₀ heads₀ next₀ capacity m ls rs b β es
-        → ToPlace names entries lefts rights heads next capacity count (at ls j) (at rs j) b β (upTo ls rs j b β es)
+        → ToPlace names entries lefts rights heads next capacity count x y b β (upTo ls rs j b β es)
     to-place b β es q =
-        record {
+        rw (left, right)
+        (record {
           known = q .known;
           stands = i .so-far b β es q .stands;
           left-term = q .left-terms j t;
           right-term = q .right-terms j (omega (arith, q .pairs));
-        }
+        })
 
     pub next-given : GivenTable (ToPlaceAll names entries₀ lefts₀ rights₀ heads₀ next₀ capacity m ls rs)
-        → GivenTable (ToPlace names entries lefts rights heads next capacity count (at ls j) (at rs j))
+        → GivenTable (ToPlace names entries lefts rights heads next capacity count x y)
     next-given g =
         record { book = g .book; bound = g .bound; table = upTo ls rs j (g .book) (g .bound) (g .table); known = to-place _ _ _ (g .known) }
 
     module _ {p : Placed} {entries′ lefts′ rights′ heads′ next′ : List ℕ}
-        (placed : Whatever (ToPlace names entries lefts rights heads next capacity count (at ls j) (at rs j))
-        (IsPlaced entries′ lefts′ rights′ heads′ next′ capacity (at ls j) (at rs j) p)) where
+        (placed : Whatever (ToPlace names entries lefts rights heads next capacity count x y)
+        (IsPlaced entries′ lefts′ rights′ heads′ next′ capacity x y p)) where
+      is-placed : (b : Book) (β : Bindings) (es : Table) → ToPlaceAll names entries₀ lefts₀ rights₀ heads₀ next₀ capacity m ls rs b β es
+          → IsPlaced entries′ lefts′ rights′ heads′ next′ capacity (at ls j) (at rs j) p b β (upTo ls rs j b β es)
+      is-placed b β es q = rw (left, right) at (placed b β _ (to-place b β es q))
+
       -- it is full
       pub placing-full : p .full ≡ true → Whatever (ToPlaceAll names entries₀ lefts₀ rights₀ heads₀ next₀ capacity m ls rs)
           (ArePlaced entries′ lefts′ rights′ heads′ next′ capacity ls rs (record { entries = numbers; count = count; full = true }))
       placing-full f b β es q =
-          let over = ltb-true capacity _ (sym (placed b β _ (to-place b β es q) .reaches .is-full) ∙ f) in
+          let over = ltb-true capacity _ (sym (is-placed b β es q .reaches .is-full) ∙ f) in
           let longer = rw (up-more ls rs (q .pairs) j t b β es) at (up-longer ls rs (q .pairs) j t b β es) in
           record {
             reaches = record { is-full = sym (lt-ltb capacity _ (omega arith)); stands = λ x. absurd (true≢false x) };
@@ -129,7 +144,7 @@ module _ {names entries₀ lefts₀ rights₀ heads₀ next₀ : List ℕ} {capa
       placed-to : p .full ≡ false → (b : Book) (β : Bindings) (es : Table) → ToPlaceAll names entries₀ lefts₀ rights₀ heads₀ next₀ capacity m ls rs b β es
           → PlacedTo entries′ lefts′ rights′ heads′ next′ capacity ls rs (set numbers j (p .entry)) (p .count) (j + 1) b β es
       placed-to f b β es q =
-          let done = placed b β _ (to-place b β es q) in
+          let done = is-placed b β es q in
           let more = up-more ls rs (q .pairs) j t b β es in
           let so = i .so-far b β es q in
           let long : length (entriesTo ls rs j b β es) ≡ j =

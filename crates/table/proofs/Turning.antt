@@ -3,7 +3,6 @@ use mathlib.Core.Path.{_≡_, refl, ap, sym, _∙_}
 use mathlib.Core.List.{List, []}
 use mathlib.Core.Bool.{Bool, true, false, true≢false}
 use Prim.Native.Nat.{ℕ, _+_, _*_, _-_, _≤_, _<_}
-use native.Mathlib.Nat.{add-sub-cancel-left}
 use native.Mathlib.Omega.{arith}
 use lib.ListN.{length, getD, take, drop, length-append, length-drop}
 use lib.Seq.{paste, getD-at, length-take-le}
@@ -21,15 +20,15 @@ use Rattle.layout.proofs.Symbols.{left-applied, right-applied}
 use Rattle.entry.specs.Row.{rowOf}
 use Rattle.entry.specs.declared.Entry.{Entry as Row}
 use Rattle.kinds.specs.Known.{Held}
-use Rattle.kinds.proofs.Rows.{formed, term-row, row-end}
-use Rattle.kinds.proofs.EntryKind.{arguments-known}
-use Rattle.table.specs.Stands.{Stands, Reaches}
-use Rattle.table.specs.Steps.{ToPlaceAll, ArePlaced, turnedRow, IsTurned}
+use Rattle.kinds.proofs.Rows.{formed, term-row, row-end, argument-terms}
+use Rattle.placing.specs.Stands.{Stands, Reaches}
+use Rattle.table.specs.Steps.{argumentsAt, ToPlaceAll, ArePlaced, turnedRow, IsTurned}
 use Rattle.table.specs.declared.Arguments.{Arguments}
 use Rattle.table.specs.declared.Visited.{Visited}
-use Rattle.table.proofs.Held.{held-set}
-use Rattle.table.proofs.Names.{names-same}
-use Rattle.table.proofs.Placing.{stands-reaches}
+use Rattle.placing.proofs.Held.{held-set}
+use Rattle.placing.proofs.Names.{names-same}
+use Rattle.placing.proofs.Placing.{stands-reaches}
+use Rattle.table.proofs.PlacingAll.{length-row}
 
 -- a row with the words of an entry has its sides and its same-as
 module _ (e : Row) (x : Entry) (same : rowOf e ≡ entryWords x) (wide : length (entryWords x) ≡ entryRowWords) where
@@ -63,15 +62,11 @@ module _ (rows entries : List ℕ) (i l : ℕ) (e : Row) (a : Arguments) where
       → IsTurned rows entries entries′ i l e a (record { turned = true; count = a .count; full = false })
   turned-put f p = record { answer = rw f; put = rw f p }
 
--- The words behind the count in the row of term t, as they are lent.
-abbrev pub lent : List ℕ → ℕ → List ℕ
-lent rows t = take (termWords * t + 2 + at rows (termWords * t + 1) - (termWords * t + 2)) (drop (termWords * t + 2) rows)
-
--- an application has them for its arguments
+-- the words behind the count of an application are its arguments
 module _ (rows : List ℕ) (t : ℕ) (d : at rows (termWords * t) ≡ 0 → ⊥) where
-  lent-arguments : lent rows t ≡ arguments (nodeOf rows t)
+  row-arguments : argumentsAt rows t ≡ arguments (nodeOf rows t)
   unfolding arguments
-  lent-arguments = rw (node-app rows t d, add-sub-cancel-left)
+  row-arguments = rw (node-app rows t d)
 
   applied-symbol : symbol (nodeOf rows t) ≡ at rows (termWords * t) - 1
   unfolding symbol
@@ -112,28 +107,24 @@ module _ {rows names entries lefts rights heads next : List ℕ} {capacity m i :
   few = rw (term-row (q .known) l (q .left-term)) at (formed (q .known) .small-arity l (q .left-term))
 
   arity : length (arguments n) ≡ at rows (termWords * l + 1)
-  unfolding arguments
-  arity =
-      rw (node-app rows l left-app)
-      (length-take-le (at rows (termWords * l + 1)) (drop (termWords * l + 2) rows) (rw length-drop (omega (arith, row-end (q .known) l (q .left-term)))))
+  arity = rw (← row-arguments rows l left-app) (length-row rows l (row-end (q .known) l (q .left-term)))
 
   -- what placing the argument pairs asks
-  pub to-place-all : ToPlaceAll names entries lefts rights heads next capacity m (lent rows l) (lent rows r) b β es
+  pub to-place-all : ToPlaceAll names entries lefts rights heads next capacity m (argumentsAt rows l) (argumentsAt rows r) b β es
   to-place-all =
-      let args = arguments-known (q .known) l r (q .left-term) (q .right-term) (q .are-alike) in
       record {
-        known = args .0;
+        known = q .known .named;
         stands = q .stands;
-        left-terms = args .1;
-        right-terms = args .2;
-        pairs = rw (lent-arguments rows l left-app, lent-arguments rows r right-app) counts;
-        few = rw (lent-arguments rows l left-app) few;
+        left-terms = argument-terms (q .known) l (q .left-term) left-app;
+        right-terms = argument-terms (q .known) r (q .right-term) right-app;
+        pairs = rw (row-arguments rows l left-app, row-arguments rows r right-app) counts;
+        few = rw (row-arguments rows l left-app) few;
       }
 
   module _ {a : Arguments} {entries′ lefts′ rights′ heads′ next′ : List ℕ}
-      (placed : ArePlaced entries′ lefts′ rights′ heads′ next′ capacity (lent rows l) (lent rows r) a b β es) where
+      (placed : ArePlaced entries′ lefts′ rights′ heads′ next′ capacity (argumentsAt rows l) (argumentsAt rows r) a b β es) where
     done : ArePlaced entries′ lefts′ rights′ heads′ next′ capacity (arguments n) (arguments o) a b β es
-    done = rw (lent-arguments rows l left-app, lent-arguments rows r right-app) at placed
+    done = rw (row-arguments rows l left-app, row-arguments rows r right-app) at placed
 
     -- they need entries beyond the capacity
     turn-full : (entries″ : List ℕ) → a .full ≡ true → Reaches entries″ lefts′ rights′ heads′ next′ capacity (a .count) (a .full) b β (turn b β es i (entry es i) n o)

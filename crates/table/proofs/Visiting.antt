@@ -16,11 +16,11 @@ use Rattle.layout.specs.Rows.{at, nodeOf}
 use Rattle.entry.specs.Row.{rowOf}
 use Rattle.entry.specs.declared.Entry.{Entry as Row}
 use Rattle.kinds.proofs.Rows.{row-end, root-lt, root-row}
-use Rattle.table.specs.Stands.{Reaches}
+use Rattle.placing.specs.Stands.{Reaches}
 use Rattle.table.specs.Steps.{ToVisit, IsVisited}
 use Rattle.table.specs.declared.Visited.{Visited}
-use Rattle.table.proofs.Held.{held-row}
-use Rattle.table.proofs.Placing.{stands-reaches}
+use Rattle.placing.proofs.Held.{held-row}
+use Rattle.placing.proofs.Placing.{stands-reaches}
 use Rattle.table.proofs.Turning.{row-left, row-right, row-kind, Turnable}
 
 -- the word of a kind is 0 exactly for a hole

@@ -4,33 +4,24 @@ use mathlib.Core.Path.{_≡_}
 use mathlib.Core.List.{List}
 use mathlib.Core.Bool.{true, false, cond, _&&_}
 use Prim.Native.Nat.{ℕ, _+_, _*_, _-_, _<_, _≤_}
-use lib.ListN.{length}
+use lib.ListN.{length, take, drop}
 use lib.Seq.{paste}
 use Rattle.model.specs.Limits.{maxArity}
 use Rattle.model.specs.Lists.{pairwise, padded}
 use Rattle.model.specs.Term.{Book, Bindings, alike, root}
-use Rattle.model.specs.Table.{Table, isHole, entry, entryOf, place, placeAll, visit}
+use Rattle.model.specs.Table.{Table, isHole, entry, entryOf, placeAll, visit}
 use Rattle.model.specs.Area.{termWords, entryRowWords}
 use Rattle.layout.specs.Rows.{at}
 use Rattle.entry.specs.Row.{rowOf}
 use Rattle.entry.specs.declared.Entry.{Entry}
 use Rattle.kinds.specs.Known.{Terms}
-use Rattle.table.specs.Stands.{KnownNames, KnownTerms, Stands, Reaches}
-use Rattle.table.specs.declared.Placed.{Placed}
+use Rattle.placing.specs.Stands.{KnownNames, KnownTerms, Stands, Reaches}
 use Rattle.table.specs.declared.Arguments.{Arguments}
 use Rattle.table.specs.declared.Visited.{Visited}
 
--- A pair of terms to be placed in a table of m entries.
-pub record ToPlace (names entries lefts rights heads next : List ℕ) (capacity m l r : ℕ) (b : Book) (β : Bindings) (es : Table) : Type 0 where
-  pub known : KnownNames names b β
-  pub stands : Stands entries lefts rights heads next capacity m b β es
-  pub left-term : l < length b
-  pub right-term : r < length b
-
--- It is placed, and has its entry.
-pub record IsPlaced (entries lefts rights heads next : List ℕ) (capacity l r : ℕ) (p : Placed) (b : Book) (β : Bindings) (es : Table) : Type 0 where
-  pub reaches : Reaches entries lefts rights heads next capacity (p .count) (p .full) b β (place b β es l r)
-  pub its-entry : p .full ≡ false → p .entry ≡ entryOf b β (place b β es l r) l r
+-- The arguments in the row of term t: the words behind its count.
+abbrev pub argumentsAt : List ℕ → ℕ → List ℕ
+argumentsAt rows t = take (at rows (termWords * t + 1)) (drop (termWords * t + 2) rows)
 
 -- Argument pairs to be placed, and placed: each has its entry.
 pub record ToPlaceAll (names entries lefts rights heads next : List ℕ) (capacity m : ℕ) (ls rs : List ℕ) (b : Book) (β : Bindings) (es : Table) : Type 0 where

@@ -1,21 +1,19 @@
-// A pair table in slices: search, placing and visits, each as its definition says (specs/Steps.antt; document 01, "The pair table").
-// `entries` has a row for each entry of the capacity, of which the first `m` hold the table. `lefts` and `rights` hold the names of
-// the two sides of each entry, indexed by `heads` and `next`.
+// The steps of a pair table in slices: its argument pairs placed, an entry turned or visited, each as its definition says
+// (specs/Steps.antt; document 01, "The pair table"). The slices are those of crate `placing`.
 
-ghost use Rattle.table.specs.Stands.{GivenTable, Whatever};
-ghost use Rattle.table.specs.Steps.{ToPlace, IsPlaced, ToPlaceAll, ArePlaced, ToTurn, IsTurned, ToVisit, IsVisited};
+ghost use mathlib.Core.Path.{_≡_};
+ghost use Prim.Native.Nat.{_+_, _*_, _≤_};
+ghost use lib.ListN.{length};
+ghost use Rattle.model.specs.Area.{termWords};
+ghost use Rattle.layout.specs.Rows.{at};
+ghost use Rattle.placing.specs.Stands.{GivenTable, Whatever};
+ghost use Rattle.table.specs.Steps.{argumentsAt, ToPlaceAll, ArePlaced, ToTurn, IsTurned, ToVisit, IsVisited};
 use entry::Entry;
 use layout::MAX_ARITY;
 use layout::TERM_WORDS;
 
-// The entry of a pair, the number of entries with it, and whether it would need more of them than the capacity.
-pub struct Placed {
-    pub entry: u32,
-    pub count: usize,
-    pub full: bool,
-}
-
-// The same of the argument pairs of two terms.
+// The entries of the argument pairs of two terms, the number of entries with them, and whether they would need more than the
+// capacity.
 struct Arguments {
     entries: [u32; MAX_ARITY],
     count: usize,
@@ -29,86 +27,40 @@ pub struct Visited {
     pub full: bool,
 }
 
-// Places the terms `l` and `r`: the lowest entry with their names, or else a hole at the next free number.
-pub fn place(
-    names: &[u32],
-    entries: &mut [u32],
-    capacity: usize,
-    m: usize,
-    l: u32,
-    r: u32,
-    lefts: &mut [u32],
-    rights: &mut [u32],
-    heads: &mut [u32],
-    next: &mut [u32],
-) -> Placed
-    requires { ⌜ GivenTable (ToPlace (now names) (now entries) (now lefts) (now rights) (now heads) (now next) capacity m l r) ⌝ }
-    ensures { λ p. ⌜ Whatever (ToPlace (now (names .entry)) (now (entries .entry)) (now (lefts .entry)) (now (rights .entry)) (now (heads .entry)) (now (next .entry)) capacity m l r)
-        (IsPlaced (now (entries .exit)) (now (lefts .exit)) (now (rights .exit)) (now (heads .exit)) (now (next .exit)) capacity l r p) ⌝ }
-{
-    let left = names[l as usize];
-    let right = names[r as usize];
-    let found = pairs::find(lefts, rights, heads, next, m, left, right);
-    if found < m {
-        return Placed {
-            entry: found as u32,
-            count: m,
-            full: false,
-        };
-    }
-    if capacity <= m {
-        return Placed {
-            entry: 0,
-            count: m,
-            full: true,
-        };
-    }
-    let hole = Entry {
-        left: l,
-        right: r,
-        kind: 0,
-        symbol: 0,
-        count: 0,
-        arguments: [0; MAX_ARITY],
-        same_as: m as u32,
-    };
-    entry::put_entry(entries, m, hole);
-    pairs::push(lefts, rights, heads, next, m, left, right);
-    Placed {
-        entry: m as u32,
-        count: m + 1,
-        full: false,
-    }
-}
-
-// Places the pairs of the terms `ls` and `rs`, left to right.
+// Places the argument pairs of the terms in rows `l` and `r`, left to right.
 fn place_all(
+    rows: &[u32],
     names: &[u32],
     entries: &mut [u32],
     capacity: usize,
     m: usize,
-    ls: &[u32],
-    rs: &[u32],
+    l: usize,
+    r: usize,
     lefts: &mut [u32],
     rights: &mut [u32],
     heads: &mut [u32],
     next: &mut [u32],
 ) -> Arguments
-    requires { ⌜ GivenTable (ToPlaceAll (now names) (now entries) (now lefts) (now rights) (now heads) (now next) capacity m (now ls) (now rs)) ⌝ }
-    ensures { λ a. ⌜ Whatever (ToPlaceAll (now (names .entry)) (now (entries .entry)) (now (lefts .entry)) (now (rights .entry)) (now (heads .entry)) (now (next .entry)) capacity m (now (ls .entry)) (now (rs .entry)))
-        (ArePlaced (now (entries .exit)) (now (lefts .exit)) (now (rights .exit)) (now (heads .exit)) (now (next .exit)) capacity (now (ls .entry)) (now (rs .entry)) a) ⌝ }
+    requires given { ⌜ GivenTable (ToPlaceAll (now names) (now entries) (now lefts) (now rights) (now heads) (now next) capacity m (argumentsAt (now rows) l) (argumentsAt (now rows) r)) ⌝ }
+    requires left { ⌜ termWords * l + 2 + at (now rows) (termWords * l + 1) ≤ length (now rows) ⌝ }
+    requires right { ⌜ termWords * r + 2 + at (now rows) (termWords * r + 1) ≤ length (now rows) ⌝ }
+    ensures { λ a. ⌜ Whatever (ToPlaceAll (now (names .entry)) (now (entries .entry)) (now (lefts .entry)) (now (rights .entry)) (now (heads .entry)) (now (next .entry)) capacity m (argumentsAt (now (rows .entry)) l) (argumentsAt (now (rows .entry)) r))
+        (ArePlaced (now (entries .exit)) (now (lefts .exit)) (now (rights .exit)) (now (heads .exit)) (now (next .exit)) capacity (argumentsAt (now (rows .entry)) l) (argumentsAt (now (rows .entry)) r) a) ⌝ }
 {
+    let ls = TERM_WORDS * l + 2;
+    let rs = TERM_WORDS * r + 2;
+    let arity = rows[TERM_WORDS * l + 1] as usize;
     let mut numbers = [0; MAX_ARITY];
     let mut count = m;
     let mut j = 0;
-    while j < ls.len() {
-        let p = place(
+    while j < arity {
+        let p = placing::place(
             names,
             entries,
             capacity,
             count,
-            ls[j],
-            rs[j],
+            rows[ls + j],
+            rows[rs + j],
             lefts,
             rights,
             heads,
@@ -164,23 +116,24 @@ fn turn(rows: &[u32], entries: &mut [u32], i: usize, l: usize, e: Entry, args: A
     }
 }
 
-// Visits entry `i`: a hole whose sides stand for terms of one symbol turns common.
+// Visits entry `i`: a hole whose sides stand for terms of one symbol turns common. `ls`, `rs`, `hs` and `ns` are the names of the
+// sides and their index.
 pub fn visit(
     rows: &[u32],
     roots: &[u32],
     names: &[u32],
     entries: &mut [u32],
-    capacity: usize,
+    cap: usize,
     m: usize,
     i: usize,
-    lefts: &mut [u32],
-    rights: &mut [u32],
-    heads: &mut [u32],
-    next: &mut [u32],
+    ls: &mut [u32],
+    rs: &mut [u32],
+    hs: &mut [u32],
+    ns: &mut [u32],
 ) -> Visited
-    requires { ⌜ GivenTable (ToVisit (now rows) (now roots) (now names) (now entries) (now lefts) (now rights) (now heads) (now next) capacity m i) ⌝ }
-    ensures { λ v. ⌜ Whatever (ToVisit (now (rows .entry)) (now (roots .entry)) (now (names .entry)) (now (entries .entry)) (now (lefts .entry)) (now (rights .entry)) (now (heads .entry)) (now (next .entry)) capacity m i)
-        (IsVisited (now (entries .exit)) (now (lefts .exit)) (now (rights .exit)) (now (heads .exit)) (now (next .exit)) capacity i v) ⌝ }
+    requires { ⌜ GivenTable (ToVisit (now rows) (now roots) (now names) (now entries) (now ls) (now rs) (now hs) (now ns) cap m i) ⌝ }
+    ensures { λ v. ⌜ Whatever (ToVisit (now (rows .entry)) (now (roots .entry)) (now (names .entry)) (now (entries .entry)) (now (ls .entry)) (now (rs .entry)) (now (hs .entry)) (now (ns .entry)) cap m i)
+        (IsVisited (now (entries .exit)) (now (ls .exit)) (now (rs .exit)) (now (hs .exit)) (now (ns .exit)) cap i v) ⌝ }
 {
     let e = entry::entry_at(entries, i);
     if e.kind != 0 {
@@ -201,21 +154,6 @@ pub fn visit(
             full: false,
         };
     }
-    let ls = TERM_WORDS * l + 2;
-    let rs = TERM_WORDS * r + 2;
-    let ls_end = ls + rows[TERM_WORDS * l + 1] as usize;
-    let rs_end = rs + rows[TERM_WORDS * r + 1] as usize;
-    let args = place_all(
-        names,
-        entries,
-        capacity,
-        m,
-        &rows[ls..ls_end],
-        &rows[rs..rs_end],
-        lefts,
-        rights,
-        heads,
-        next,
-    );
+    let args = place_all(rows, names, entries, cap, m, l, r, ls, rs, hs, ns);
     turn(rows, entries, i, l, e, args)
 }

@@ -1,43 +1,99 @@
 -- `table::place_all` meets its contract: after `j` pairs the slices hold the table with those. The measure is the pairs that are
 -- left. Assumes nothing.
-use Prim.Native.Nat.{_-_}
+use mathlib.Core.Path.{_≡_, sym, _∙_}
+use Prim.Native.Nat.{_+_, _*_, _-_, _<_}
 use native.Mathlib.Omega.{arith}
 use borrow.Author.Needs.{needs}
+use denote.Ref.{now}
 use lib.ListN.{length}
-use Rattle.table.proofs.PlacingAll.{PlacingAll, placing-none, next-given, placing-full, placing-more, placing-all}
+use Rattle.model.specs.Area.{termWords}
+use Rattle.layout.specs.Rows.{at}
+use Rattle.table.specs.Steps.{argumentsAt}
+use Rattle.table.proofs.PlacingAll.{length-row, row-at, PlacingAll, placing-none, next-given, placing-full, placing-more, placing-all}
 use Rattle.table.proofs.place_all.Statement.{statement}
 use Rattle.table.proofs.place_all.Tie as tie
 
 abbrev Inv-loop : tie.InvT-loop
-Inv-loop names entries₀ capacity m ls rs lefts₀ rights₀ heads₀ next₀ numbers₀ count₀ j₀ entries lefts rights heads next numbers count j =
-    PlacingAll names entries₀ lefts₀ rights₀ heads₀ next₀ capacity m ls rs entries lefts rights heads next numbers count j
+Inv-loop rows names entries₀ capacity m l r lefts₀ rights₀ heads₀ next₀ ls rs arity numbers₀ count₀ j₀ entries lefts rights heads next numbers count j =
+    PlacingAll names entries₀ lefts₀ rights₀ heads₀ next₀ capacity m (argumentsAt rows l) (argumentsAt rows r) entries lefts rights heads next numbers count j
 
 abbrev μ-loop : tie.MeasureT-loop
-μ-loop names entries₀ capacity m ls rs lefts₀ rights₀ heads₀ next₀ numbers₀ count₀ j₀ entries lefts rights heads next numbers count j =
-    length ls - j
+μ-loop rows names entries₀ capacity m l r lefts₀ rights₀ heads₀ next₀ ls rs arity numbers₀ count₀ j₀ entries lefts rights heads next numbers count j =
+    arity - j
 
 loop-holds : tie.Need-loop-holds Inv-loop μ-loop
 loop-holds c = placing-none _ _ _ _ _ _ _ _ _ _
 
+-- the start of the function, from a turn of its loop
+abbrev start : tie.In-loop Inv-loop μ-loop → tie.Start Inv-loop μ-loop
+start c = c .before .before .before .before .before .before .before .before .before .before
+
+-- there is a next pair, in the rows of both terms
+left-there : (c : tie.In-loop Inv-loop μ-loop) → c .before .loop .j < length (argumentsAt (now (start c .args .rows)) (start c .args .l))
+left-there c = omega (arith, length-row (now (start c .args .rows)) (start c .args .l) (start c .pre .1 .0), c .loop-test .taken)
+
+right-there : (c : tie.In-loop Inv-loop μ-loop) → c .before .loop .j < at (now (start c .args .rows)) (termWords * start c .args .r + 1)
+right-there c = omega (arith, left-there c, start c .pre .0 .known .pairs, length-row (now (start c .args .rows)) (start c .args .r) (start c .pre .1 .1))
+
+left-word : (c : tie.In-loop Inv-loop μ-loop) →
+    let a = start c .args in
+    at (now (a .rows)) (termWords * a .l + 2 + c .before .loop .j) ≡ at (argumentsAt (now (a .rows)) (a .l)) (c .before .loop .j)
+left-word c = row-at (now (start c .args .rows)) (start c .args .l) (start c .pre .1 .0) _ (c .loop-test .taken)
+
+right-word : (c : tie.In-loop Inv-loop μ-loop) →
+    let a = start c .args in
+    at (now (a .rows)) (termWords * a .r + 2 + c .before .loop .j) ≡ at (argumentsAt (now (a .rows)) (a .r)) (c .before .loop .j)
+right-word c = row-at (now (start c .args .rows)) (start c .args .r) (start c .pre .1 .1) _ (right-there c)
+
+add-place : tie.Need-add-place Inv-loop μ-loop
+add-place c = omega (arith, start (c .before) .pre .1 .0, c .before .loop-test .taken, start (c .before) .good .0)
+
+mul-place : tie.Need-mul-place Inv-loop μ-loop
+mul-place c = omega (arith, start (c .before) .pre .1 .0, c .before .loop-test .taken, start (c .before) .good .0)
+
+shared-slice-read-place : tie.Need-shared-slice-read-place Inv-loop μ-loop
+shared-slice-read-place c = omega (arith, start (c .before .before) .pre .1 .0, c .before .before .loop-test .taken)
+
+add-place-2 : tie.Need-add-place-2 Inv-loop μ-loop
+add-place-2 c = let t = c .before .before in omega (arith, start t .pre .1 .1, right-there t, start t .good .0)
+
+mul-place-2 : tie.Need-mul-place-2 Inv-loop μ-loop
+mul-place-2 c = let t = c .before .before in omega (arith, start t .pre .1 .1, right-there t, start t .good .0)
+
+shared-slice-read-place-2 : tie.Need-shared-slice-read-place-2 Inv-loop μ-loop
+shared-slice-read-place-2 c = let t = c .before .before .before in omega (arith, start t .pre .1 .1, right-there t)
+
 place-requires : tie.Need-place-requires Inv-loop μ-loop
-place-requires c κs = next-given (c .before .before .before .before .before .before .before .before .loop .inv) (c .before .before .before .before .before .before .before .loop-test .taken) (c .before .before .before .before .before .before .before .before .before .before .before .before .before .before .before .before .before .pre)
+place-requires c κs =
+    let t = c .before .before .before .before .before .before .before in
+    next-given (t .before .loop .inv) (left-there t) (left-word t) (right-word t) (start t .pre .0)
+
+-- a turn of the loop, from its call
+abbrev turn : tie.After-place Inv-loop μ-loop → tie.In-loop Inv-loop μ-loop
+turn c = c .before .before .before .before .before .before .before .before
 
 returns : tie.Need-returns Inv-loop μ-loop
-returns c = let test = c .before .before .before .before .before .before .before .before .before .before .before .before .before .before .before .before .before .before .before in placing-full (test .before .loop .inv) (test .loop-test .taken) (c .before .before .before .before .before .before .before .before .before .before .before .place .ensures) (c .if1 .taken)
+returns c =
+    let called = c .before .before .before .before .before .before .before .before .before .before .before in
+    let t = turn called in
+    placing-full (t .before .loop .inv) (left-there t) (left-word t) (right-word t) (called .place .ensures) (c .if1 .taken)
 
 array-write-numbers : tie.Need-array-write-numbers Inv-loop μ-loop
-array-write-numbers c = let few = c .before .before .before .before .before .before .before .before .before .before .before .before .before .before .before .before .before .before .before .before .before .before .before .before .before .before .before .before .before .pre .known .few in let test = c .before .before .before .before .before .before .before .before .before .before .before .before .before .before .before .before .before .before .before .loop-test .taken in omega arith
+array-write-numbers c = let t = c .before .before .before .before .before .before .before .before .before .before .before .before .before .before .before .before .before .before .before in omega (arith, start t .pre .0 .known .few, left-there t)
 
 loop-again : tie.Need-loop-again Inv-loop μ-loop
 loop-again c =
-    let test = c .before .before .before .before .before .before .before .before .before .before .before .before .before .before .before .before .before .before .before in
-    let k = c .before .before .before .before .before .before .before .before .before .before .before .place .kept .1 in
+    let called = c .before .before .before .before .before .before .before .before .before .before .before in
+    let t = turn called in
+    let k = called .place .kept .1 in
     let a = k .1 .1 .1 .1 .1 in
-    placing-more (test .before .loop .inv) (test .loop-test .taken) (c .before .before .before .before .before .before .before .before .before .before .before .place .ensures) (c .if1 .left)
+    placing-more (t .before .loop .inv) (left-there t) (left-word t) (right-word t) (called .place .ensures) (c .if1 .left)
     (record { entries-size = k .0; left-size = a .0; right-size = a .1 .0; heads-size = a .1 .1 .0; next-size = a .1 .1 .1 .0 })
 
 returns-2 : tie.Need-returns-2 Inv-loop μ-loop
-returns-2 c = placing-all (c .before .loop .inv) (c .loop-test .left)
+returns-2 c =
+    let s = c .before .before .before .before .before .before .before .before .before .before in
+    placing-all (c .before .loop .inv) (omega (arith, length-row (now (s .args .rows)) (s .args .l) (s .pre .1 .0), c .loop-test .left))
 
 pub place-all-spec : {M : Type 1} → statement M
 place-all-spec =
@@ -45,11 +101,22 @@ place-all-spec =
     (tie.spec
     Inv-loop
     μ-loop
+    (λ c. search needs)
+    (λ c. search needs)
+    (λ c. search needs)
+    (λ c. search needs)
+    (λ c. search needs)
+    (λ c. search needs)
+    (λ c. search needs)
+    (λ c. search needs)
+    (λ c. search needs)
     loop-holds
-    (λ c. search needs)
-    (λ c. search needs)
-    (λ c. search needs)
-    (λ c. search needs)
+    add-place
+    mul-place
+    shared-slice-read-place
+    add-place-2
+    mul-place-2
+    shared-slice-read-place-2
     place-requires
     (λ c. search needs)
     (λ c. search needs)

@@ -19,10 +19,10 @@ use Rattle.pairs.specs.Index.{Pushed}
 use Rattle.entry.specs.Row.{rowOf}
 use Rattle.entry.specs.declared.Entry.{Entry}
 use Rattle.kinds.proofs.Names.{SideNames, entryOf-place}
-use Rattle.table.specs.Stands.{HoldsTable, Stands, Reaches}
-use Rattle.table.specs.Steps.{ToPlace, IsPlaced}
-use Rattle.table.proofs.Held.{held-more}
-use Rattle.table.proofs.Names.{names-more}
+use Rattle.placing.specs.Stands.{HoldsTable, Stands, Reaches}
+use Rattle.placing.specs.Steps.{ToPlace, IsPlaced}
+use Rattle.placing.proofs.Held.{held-more}
+use Rattle.placing.proofs.Names.{names-more}
 
 -- The hole (l, r) as a struct.
 abbrev pub holeOf : ℕ → ℕ → ℕ → Entry

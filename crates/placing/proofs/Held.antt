@@ -13,7 +13,7 @@ use Rattle.model.specs.Area.{entryRowWords, entryWords}
 use Rattle.theory.proofs.Lists.Laws.{concatMap-append}
 use Rattle.theory.proofs.Lists.Rows.{Wide, drop-behind, length-rows, row, padded-row}
 use Rattle.theory.proofs.Table.Search.{lt-or-le, eq-or-not}
-use Rattle.table.specs.Stands.{HoldsTable}
+use Rattle.placing.specs.Stands.{HoldsTable}
 
 -- a list put behind another one of length n
 paste-behind : (xs ys zs : List ℕ) (n w : ℕ) → length xs ≡ n → length zs ≡ w → paste (xs ++ ys) n zs w ≡ xs ++ (zs ++ drop w ys)

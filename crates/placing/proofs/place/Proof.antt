@@ -1,9 +1,9 @@
--- `table::place` meets its contract: each return follows the tests that lead there. Assumes nothing.
+-- `placing::place` meets its contract: each return follows the tests that lead there. Assumes nothing.
 use native.Mathlib.Omega.{arith}
 use borrow.Author.Needs.{needs}
-use Rattle.table.proofs.Placing.{place-there, place-full, place-hole}
-use Rattle.table.proofs.place.Statement.{statement}
-use Rattle.table.proofs.place.Tie as tie
+use Rattle.placing.proofs.Placing.{place-there, place-full, place-hole}
+use Rattle.placing.proofs.place.Statement.{statement}
+use Rattle.placing.proofs.place.Tie as tie
 
 -- the pair has an entry
 returns : tie.Need-returns

@@ -6,7 +6,7 @@
 mod bases;
 mod reference;
 
-use reference::{encode, push_number, random_book, session, Call, End, Random, Session, Term, LONGEST};
+use reference::{encode, push_number, random_book, session, times, Call, End, Random, Session, Term, LONGEST};
 use std::collections::BTreeMap;
 use std::io::{Read, Write};
 use std::process::{Command, Stdio};
@@ -308,57 +308,20 @@ fn worked() -> Vec<(Vec<u8>, &'static str)> {
     ]
 }
 
-/// The bucket of a pair in the library's index of pairs (crates/pairs), where pairs of one bucket are searched one after the other.
-fn bucket(a: u32, b: u32) -> usize {
-    ((u64::from(a) * 1_052_792_407 + u64::from(b) * 2_447_445_413) / 1_048_576 % 4_096) as usize
-}
-
-/// As many terms of eight arguments as there may be, whose values are put into the index in long chains: each has a symbol of its
-/// own, for which its last argument goes into the fullest bucket, and each argument before it is the term that goes into the
-/// fullest bucket that can be had.
-fn colliding_book() -> Vec<Term> {
-    const TERMS: u32 = 1_024;
-    const VARIABLES: u32 = 16;
-    let mut terms = vec![Term::Variable; VARIABLES as usize];
-    let mut classes: Vec<u32> = (0..VARIABLES).collect();
-    let mut filled = vec![0u32; 4_096];
-    let mut placed = std::collections::HashSet::new();
-    let mut used = std::collections::HashSet::new();
-    let mut places = 0;
-    for own in VARIABLES..TERMS {
-        let full = (0..4_096).max_by_key(|&i: &usize| filled[i]).expect("a bucket");
-        let starts = (0..4_096).flat_map(|symbol| (0..own).rev().take(64).map(move |a| (symbol, a)));
-        let hits = |&(symbol, a): &(u32, u32)| !used.contains(&symbol) && bucket(symbol, classes[a as usize]) == full;
-        let symbol = starts.filter(hits).next().map_or(own, |(symbol, _)| symbol);
-        used.insert(symbol);
-        let mut node = symbol;
-        let mut arguments = Vec::new();
-        for _ in 0..8 {
-            let fresh = |&a: &u32| !placed.contains(&(node, classes[a as usize]));
-            let fullest = |&a: &u32| filled[bucket(node, classes[a as usize])];
-            let argument = (0..own).filter(fresh).max_by_key(fullest).expect("a pair");
-            let pair = (node, classes[argument as usize]);
-            placed.insert(pair);
-            filled[bucket(pair.0, pair.1)] += 1;
-            node = 4_096 + places;
-            places += 1;
-            arguments.insert(0, argument);
-        }
-        classes.push(TERMS + node);
-        terms.push(over(symbol, &arguments));
-    }
-    terms
-}
-
-/// The session that takes longest of those tried: a book of values that collide, lines up to their number, and reports up to the
-/// last byte.
+/// The session that takes longest of those tried: two trees of eight arguments over few variables, a table of as many entries as the
+/// capacity, each with numbers as long as they can be, and reports up to the last byte.
 fn slowest() -> Vec<u8> {
-    let mut input = of(&encode(&colliding_book()), &[]);
+    let mut terms = vec![Term::Variable; 24];
+    while terms.len() < 1_024 {
+        let own = terms.len() as u32;
+        let arguments: Vec<u32> = (0..8).map(|i| own - 1 - (i * 3 + own % 3) % 24.min(own)).collect();
+        terms.push(over(4_095, &arguments));
+    }
     let mut steps = Vec::new();
     for line in 0..256 {
         push_step(&mut steps, Call::Add { l: 1_023 - line, r: 1_022 - line });
     }
-    input.extend(steps);
+    let mut input = of(&encode(&terms), &steps);
     input.resize(LONGEST, 3);
     input
 }
@@ -404,7 +367,7 @@ fn output_closed() -> bool {
 fn random_sessions(first: u64, every: u64) -> (Census, Vec<bool>) {
     let mut census = Census::default();
     let mut same = Vec::new();
-    for i in (first..SESSIONS).step_by(every as usize) {
+    for i in (first..SESSIONS * times()).step_by(every as usize) {
         let seed = FIRST_SEED + i;
         let input = random_session(seed);
         let session = session(&input);

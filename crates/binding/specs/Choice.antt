@@ -1,25 +1,17 @@
--- Fixing a choice on a loaded state: what is asked, and what each part of it answers and leaves (document 01, "Fix a choice",
--- "Turned down"). Assumes nothing: these are definitions.
-use mathlib.Core.Path.{_≡_}
+-- Fixing a choice on a loaded state: what is asked, and the tests before the walk (document 01, "Fix a choice", "Turned down").
+-- Assumes nothing: these are definitions.
 use mathlib.Core.List.{List}
 use mathlib.Core.Bool.{cond, _&&_}
 use mathlib.Core.Option.{none}
-use Prim.Native.Nat.{ℕ, suc, _*_, _-_, _≤_, _<_}
+use Prim.Native.Nat.{ℕ}
 use lib.ListN.{length, getD}
-use lib.Dec.{T, ltb, leb}
+use lib.Dec.{ltb}
 use Rattle.model.specs.Limits.{Limits}
-use Rattle.model.specs.Term.{var, Book, Bindings, val, occurs, acyclic}
-use Rattle.model.specs.Table.{Table, entry, walk, settle}
-use Rattle.model.specs.Step.{isFree, turned}
-use Rattle.model.specs.Area.{entryRowWords}
-use Rattle.layout.specs.Rows.{bookOf, boundOf, tableOf, GoodTerms}
+use Rattle.model.specs.Term.{var, Book, Bindings, val, occurs}
+use Rattle.model.specs.Step.{isFree}
 use Rattle.area.specs.declared.Header.{Header}
 use Rattle.area.specs.Held.{held}
-use Rattle.kinds.specs.Known as Known
-use Rattle.valued.specs.Valued.{Room}
 use Rattle.state.specs.Ready.{Lent, Ready}
-use Rattle.placing.specs.Stands.{HoldsTable}
-use Rattle.steps.specs.declared.Stepped.{Stepped}
 
 -- The slices hold a sound state with its lines, within the limits, and are lent room for every such state.
 pub record Asked (h : Header) (rows bindings list roots names entries lefts rights heads next : List ℕ) (lim : Limits) (lines : List ℕ) : Type 0 where
@@ -37,29 +29,3 @@ pub record Given (P : Limits → List ℕ → Type 0) : Type 0 where
 unfoldable pub earlyRefusal : Book → Bindings → ℕ → ℕ → ℕ
 earlyRefusal b β v t =
     cond (ltb v (length b) && ltb t (length b)) (cond (isFree (getD b v var) (getD β v none)) (cond (occurs v (val b β t)) 10 0) 9) 8
-
--- The answer where the walk leads from one table to another: 11 where that needs more entries than the capacity, else how many
--- entries turned, how many were appended, and the numbers of entries and of lines.
-unfoldable pub walkedAnswer : Header → Table → Table → Stepped
-walkedAnswer h es es′ =
-    cond (leb (length es′) (h .capacity))
-    (record { refusal = 0; first = turned es es′; second = length es′ - length es; entries = length es′; lines = h .lines })
-    (record { refusal = 11; first = 0; second = 0; entries = 0; lines = 0 })
-
--- The table is walked through under these bindings, and where it stays within the capacity its same-as is set.
-pub record IsSettled (h : Header) (entries : List ℕ) (s : Stepped) (b : Book) (β : Bindings) (es : Table) : Type 0 where
-  pub answer : s ≡ walkedAnswer h es (walk b β (suc (h .capacity)) 0 es)
-  pub table : length (walk b β (suc (h .capacity)) 0 es) ≤ h .capacity
-      → HoldsTable entries (settle b β (walk b β (suc (h .capacity)) 0 es))
-
--- Rows and words whose values do not contain themselves, and a table over their terms; its same-as and kinds may be those of other
--- bindings.
-pub record ToRebuild (h : Header) (rows bindings list roots names entries lefts rights heads next : List ℕ) : Type 0 where
-  pub good : GoodTerms rows bindings (h .terms)
-  pub no-cycle : T (acyclic (bookOf rows (h .terms)) (boundOf bindings (h .terms)))
-  pub table : HoldsTable entries (tableOf entries (h .entries))
-  pub left-term : (i : ℕ) → i < h .entries → entry (tableOf entries (h .entries)) i .left < h .terms
-  pub right-term : (i : ℕ) → i < h .entries → entry (tableOf entries (h .entries)) i .right < h .terms
-  pub long : length entries ≡ entryRowWords * h .capacity
-  pub for-terms : Room list roots names lefts rights heads next (h .terms)
-  pub for-entries : Known.Room lefts rights heads next (h .capacity)

@@ -18,7 +18,7 @@ use Rattle.table.proofs.Sizes.{SameSizes}
 use Rattle.saturate.specs.Steps.{ToWalk, ToIndex, IsIndexed}
 use Rattle.state.proofs.Rooms.{fewer-entries}
 use Rattle.steps.proofs.Tables.{valued-names, valued-known, indexed-stands}
-use Rattle.binding.specs.Choice.{ToRebuild}
+use Rattle.rebuilding.specs.Rebuilding.{ToRebuild}
 
 module _ {h : Header} {rows bindings list roots names entries lefts rights heads next : List ℕ}
     (r : ToRebuild h rows bindings list roots names entries lefts rights heads next) where

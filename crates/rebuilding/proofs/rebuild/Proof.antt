@@ -1,4 +1,4 @@
--- `binding::rebuild` meets its contract: the terms have names, so the table is indexed by them, and then walked through. Assumes
+-- `rebuilding::rebuild` meets its contract: the terms have names, so the table is indexed by them, and then walked through. Assumes
 -- nothing.
 use mathlib.Core.Path.{refl, _∙_}
 use borrow.Author.Needs.{needs}
@@ -6,9 +6,9 @@ use borrow.Author.Tests.{not-false}
 use denote.Ref.{now}
 use Rattle.layout.specs.Rows.{bookOf, boundOf, tableOf}
 use Rattle.saturate.specs.Steps.{ToWalk}
-use Rattle.binding.proofs.Rebuilt.{never-refused, to-index, to-walk}
-use Rattle.binding.proofs.rebuild.Statement.{statement}
-use Rattle.binding.proofs.rebuild.Tie as tie
+use Rattle.rebuilding.proofs.Rebuilt.{never-refused, to-index, to-walk}
+use Rattle.rebuilding.proofs.rebuild.Statement.{statement}
+use Rattle.rebuilding.proofs.rebuild.Tie as tie
 
 -- no value contains itself
 returns : tie.Need-returns

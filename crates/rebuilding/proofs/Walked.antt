@@ -17,7 +17,7 @@ use Rattle.saturate.specs.Steps.{ToWalk, IsWalked, ToSettle}
 use Rattle.saturate.specs.declared.Walked.{Walked}
 use Rattle.saturate.proofs.Turned.{at-most-one}
 use Rattle.steps.specs.declared.Stepped.{Stepped}
-use Rattle.binding.specs.Choice.{walkedAnswer, IsSettled}
+use Rattle.rebuilding.specs.Rebuilding.{walkedAnswer, IsSettled}
 
 -- no more entries turn than there were
 turned-few : (old new : Table) → turned old new ≤ length old

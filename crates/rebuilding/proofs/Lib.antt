@@ -1,0 +1,2 @@
+mod Walked
+mod Rebuilt

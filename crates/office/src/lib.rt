@@ -1,58 +1,10 @@
-// The arrays of the office's sizes, which the calls that test an area share.
+// The arrays of the office's sizes for a step on an area.
 
-ghost use mathlib.Core.Path.{_≡_};
-ghost use mathlib.Core.Bool.{true};
-ghost use Prim.Native.Nat.{_*_};
-ghost use lib.ListN.{length};
 ghost use Rattle.model.specs.Limits.{office};
-ghost use Rattle.model.specs.Area.{termWords, entryRowWords, sound};
 ghost use Rattle.calls.specs.Called.{callStep, Called};
-ghost use Rattle.office.specs.Held.{Held};
+use loaded::PAIRS;
+use loaded::TABLE_WORDS;
 use steps::Stepped;
-
-// The words of the largest table.
-pub const TABLE_WORDS: usize = layout::ENTRY_WORDS * layout::OFFICE_CAPACITY;
-
-// The pairs that there is room for in the scratch of a call: one for each entry, of which there are at least as many as terms.
-pub const PAIRS: usize = layout::OFFICE_CAPACITY;
-
-// Whether an area is sound; then the slices have the rows of its terms, its lines, the rows of its entries and the names of its
-// terms.
-pub fn read(
-    area: &[u8],
-    rows: &mut [u32],
-    lines: &mut [u32],
-    entries: &mut [u32],
-    names: &mut [u32],
-) -> bool
-    requires { ⌜ (length (now rows) ≡ termWords * office .maxTerms) × (length (now lines) ≡ office .maxLines)
-        × (length (now entries) ≡ entryRowWords * office .maxCapacity) × (length (now names) ≡ office .maxTerms) ⌝ }
-    ensures sound { λ r. ⌜ r ≡ sound office (now (area .entry)) ⌝ }
-    ensures held { λ r. ⌜ (r ≡ true → Held (now (area .entry)) (now (rows .exit)) (now (lines .exit)) (now (entries .exit)) (now (names .exit))) ⌝ }
-{
-    let mut bindings = [0u32; layout::OFFICE_TERMS];
-    let mut list = [0u32; layout::OFFICE_TERMS];
-    let mut roots = [0u32; layout::OFFICE_TERMS];
-    let mut lefts = [0u32; PAIRS];
-    let mut rights = [0u32; PAIRS];
-    let mut heads = [0u32; pairs::BUCKETS];
-    let mut next = [0u32; 2 * PAIRS];
-    reading::sound(
-        rows,
-        &mut bindings,
-        lines,
-        layout::OFFICE,
-        entries,
-        &mut list,
-        &mut roots,
-        names,
-        area,
-        &mut lefts,
-        &mut rights,
-        &mut heads,
-        &mut next,
-    )
-}
 
 // Fixes the choice (`a`, `b`), or adds the line (`a`, `b`), on an area of any length and any bytes.
 pub fn step(area: &mut [u8], fixes: bool, a: u32, b: u32) -> Stepped

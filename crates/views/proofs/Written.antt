@@ -21,7 +21,7 @@ use Rattle.state.specs.Ready.{Ready}
 use Rattle.reading.proofs.Tested.{table-known}
 use Rattle.state.proofs.Uses.{read-facts, read-rows, read-terms, read-entries}
 use Rattle.report.specs.Shown.{Told}
-use Rattle.office.specs.Held.{Held}
+use Rattle.loaded.specs.Held.{Held}
 use Rattle.copying.proofs.BookHeld.{BookHeld, held-book}
 
 -- A call that tests an area and emits bytes, by the test.

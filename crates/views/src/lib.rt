@@ -20,9 +20,9 @@ pub fn entry(area: &[u8], i: u32, fields: &mut [u32; layout::ENTRY_WORDS]) -> u3
     *fields = [0u32; layout::ENTRY_WORDS];
     let mut rows = [0u32; ROWS];
     let mut lines = [0u32; layout::OFFICE_LINES];
-    let mut entries = [0u32; office::TABLE_WORDS];
+    let mut entries = [0u32; loaded::TABLE_WORDS];
     let mut names = [0u32; layout::OFFICE_TERMS];
-    if !office::read(area, &mut rows, &mut lines, &mut entries, &mut names) {
+    if !loaded::read(area, &mut rows, &mut lines, &mut entries, &mut names) {
         return 7;
     }
     let h = area::load_header(area);
@@ -40,10 +40,10 @@ pub fn write(area: &[u8], out: &mut [u8], written: &mut u32) -> u32
     ensures { λ r. ⌜ Writes (callWrite office (now (area .entry)) (now (out .entry))) r (now (written .exit)) (now (out .exit)) ⌝ }
 {
     let mut names = [0u32; layout::OFFICE_TERMS];
-    let mut entries = [0u32; office::TABLE_WORDS];
+    let mut entries = [0u32; loaded::TABLE_WORDS];
     let mut lines = [0u32; layout::OFFICE_LINES];
     let mut rows = [0u32; ROWS];
-    if !office::read(area, &mut rows, &mut lines, &mut entries, &mut names) {
+    if !loaded::read(area, &mut rows, &mut lines, &mut entries, &mut names) {
         *written = 0;
         return 7;
     }
@@ -61,8 +61,8 @@ pub fn report(area: &[u8], out: &mut [u8], written: &mut u32) -> u32
     let mut lines = [0u32; layout::OFFICE_LINES];
     let mut names = [0u32; layout::OFFICE_TERMS];
     let mut rows = [0u32; ROWS];
-    let mut entries = [0u32; office::TABLE_WORDS];
-    if !office::read(area, &mut rows, &mut lines, &mut entries, &mut names) {
+    let mut entries = [0u32; loaded::TABLE_WORDS];
+    if !loaded::read(area, &mut rows, &mut lines, &mut entries, &mut names) {
         return 7;
     }
     let h = area::load_header(area);

@@ -10,7 +10,7 @@ use Rattle.model.specs.Limits.{office}
 use Rattle.model.specs.Area.{word, sound}
 use Rattle.theory.proofs.Lists.Laws.{true-T}
 use Rattle.state.proofs.Uses.{sound-header, read-entries, entry-within, entry-row}
-use Rattle.office.specs.Held.{Held}
+use Rattle.loaded.specs.Held.{Held}
 use Rattle.views.proofs.EntryCases.{entry-seven, entry-eight, entry-there}
 use Rattle.views.proofs.entry.Statement.{statement}
 use Rattle.views.proofs.entry.Tie as tie

@@ -13,7 +13,7 @@ use Rattle.model.specs.Limits.{office}
 use Rattle.model.specs.Area.{entryRowWords, sound, stateOf}
 use Rattle.theory.proofs.Lists.Laws.{true-T}
 use Rattle.state.proofs.Uses.{sound-header, read-entries}
-use Rattle.office.specs.Held.{Held}
+use Rattle.loaded.specs.Held.{Held}
 use Rattle.views.proofs.Written.{report-seven, cut-fits, lines-fit, few-lines, few-entries, read-told, written-report}
 use Rattle.views.proofs.report.Statement.{statement}
 use Rattle.views.proofs.report.Tie as tie

@@ -1,7 +1,7 @@
--- `office::read` meets its contract: the arrays have the sizes of the limits. Assumes nothing.
+-- `loaded::read` meets its contract: the arrays have the sizes of the limits. Assumes nothing.
 use borrow.Author.Needs.{needs}
-use Rattle.office.proofs.read.Statement.{statement}
-use Rattle.office.proofs.read.Tie as tie
+use Rattle.loaded.proofs.read.Statement.{statement}
+use Rattle.loaded.proofs.read.Tie as tie
 
 returns : tie.Need-returns
 returns c =

@@ -308,18 +308,14 @@ fn worked() -> Vec<(Vec<u8>, &'static str)> {
     ]
 }
 
-/// The session that takes longest of those tried: two trees of eight arguments over few variables, a table of as many entries as the
-/// capacity, each with numbers as long as they can be, and reports up to the last byte.
+/// The session that takes longest of those tried: each term is over eight times the one before it, and the line of the last two fills
+/// the table but for an entry, which a second line takes; then lines to their number, and reports up to the last byte.
 fn slowest() -> Vec<u8> {
-    let mut terms = vec![Term::Variable; 24];
-    while terms.len() < 1_024 {
-        let own = terms.len() as u32;
-        let arguments: Vec<u32> = (0..8).map(|i| own - 1 - (i * 3 + own % 3) % 24.min(own)).collect();
-        terms.push(over(4_095, &arguments));
-    }
+    let terms: Vec<Term> = (0..1_024).map(|own| if own == 0 { Term::Variable } else { over(4_095, &[own - 1; 8]) }).collect();
     let mut steps = Vec::new();
-    for line in 0..256 {
-        push_step(&mut steps, Call::Add { l: 1_023 - line, r: 1_022 - line });
+    push_step(&mut steps, Call::Add { l: 0, r: 0 });
+    for _ in 1..256 {
+        push_step(&mut steps, Call::Add { l: 1_023, r: 1_022 });
     }
     let mut input = of(&encode(&terms), &steps);
     input.resize(LONGEST, 3);

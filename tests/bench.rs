@@ -7,11 +7,11 @@ mod damage;
 mod fit;
 mod lean;
 mod reference;
+mod timing;
 
 use bases::Base;
 use reference::{perform, Answer, Call, Random, Term, OFFICE};
 use std::hint::black_box;
-use std::time::{Duration, Instant};
 
 const RUNS: usize = 5;
 const ROUNDS: usize = 30;
@@ -24,21 +24,11 @@ const LONGEST_REPORT: usize = 47_620;
 /// A call on an area and an output.
 type Work<'a> = &'a dyn Fn(&mut [u8], &mut [u8]) -> Answer;
 
-/// The best time of a call over all rounds, in microseconds. The area is put back before each call, outside the time.
+/// The best time of a call over all rounds, in microseconds.
 fn best(work: Work, start: &[u8], out: &mut [u8]) -> f64 {
-    let mut area = start.to_vec();
-    let mut least = Duration::MAX;
-    for _ in 0..ROUNDS {
-        let mut sum = Duration::ZERO;
-        for _ in 0..CALLS {
-            area.copy_from_slice(start);
-            let clock = Instant::now();
-            black_box(work(black_box(&mut area), black_box(out)));
-            sum += clock.elapsed();
-        }
-        least = least.min(sum);
-    }
-    least.as_secs_f64() * 1e6 / CALLS as f64
+    timing::best(start, ROUNDS, CALLS, |area| {
+        black_box(work(area, black_box(out)));
+    })
 }
 
 /// The answer, the area and the output of a call.

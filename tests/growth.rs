@@ -6,12 +6,12 @@
 mod bases;
 mod fit;
 mod reference;
+mod timing;
 
 use bases::Base;
 use reference::{perform, Call, Random, OFFICE};
 use std::fmt::Write;
 use std::hint::black_box;
-use std::time::{Duration, Instant};
 
 const SIZES: [u32; 4] = [16, 64, 256, 1024];
 const CALLS: [&str; 6] = ["opening", "adding", "fixing", "reading an entry", "reporting", "writing"];
@@ -20,22 +20,9 @@ const ROUNDS: usize = 40;
 const REPEATS: usize = 25;
 const LONGEST_REPORT: usize = 47_620;
 
-/// The best time of a call, in microseconds; the area is put back before each, outside the time.
+/// The best time of a call, in microseconds; it must be accepted.
 fn best(start: &[u8], mut work: impl FnMut(&mut [u8]) -> u32) -> f64 {
-    let mut area = start.to_vec();
-    let mut least = Duration::MAX;
-    for _ in 0..ROUNDS {
-        let mut sum = Duration::ZERO;
-        for _ in 0..REPEATS {
-            area.copy_from_slice(start);
-            let clock = Instant::now();
-            let refusal = work(black_box(&mut area));
-            sum += clock.elapsed();
-            assert_eq!(refusal, 0, "a measured call is refused");
-        }
-        least = least.min(sum);
-    }
-    least.as_secs_f64() * 1e6 / REPEATS as f64
+    timing::best(start, ROUNDS, REPEATS, |area| assert_eq!(work(area), 0, "a measured call is refused"))
 }
 
 /// Of some choices the one that turns most entries, and a line that is accepted, if there are such.

@@ -53,7 +53,7 @@ Takes r area out s = (r ≡ s .answer) × ((area ≡ s .area) × (out ≡ s .out
 
 -- by the step that was asked for
 module _ (input area out : List ℕ) (at : ℕ) {q : Request} (e : q ≡ requestAt input at) where
-  by-request : {q′ : Request} → q ≡ q′ → stepAt input area out at ≡ perform area out q′
+  pub by-request : {q′ : Request} → q ≡ q′ → stepAt input area out at ≡ perform area out q′
   unfolding stepAt
   by-request h = ap (perform area out) (sym e ∙ h)
 

@@ -1,17 +1,17 @@
 // The session program (docs/SPEC.md, "Sessions"): it reads a session from standard input, and prints a line for the opening and
-// for each step. The opening and a step are the functions of crate session, the text of their lines those of crate lines; here they
-// are joined to the input and the output.
+// for each step. The opening is a function of crate session, a step with the text of its line one of crate turns; here they are joined to
+// the input and the output.
 
 ghost use mathlib.Core.Path.{_≡_};
-ghost use Prim.Native.Nat.{_<_, _≤_};
+ghost use mathlib.Core.Bool.{cond};
+ghost use Prim.Native.Nat.{_≤_};
 ghost use lib.ListN.{length};
 ghost use Rattle.theory.specs.Lengths.{longestSessionReport};
 ghost use Rattle.text.specs.Text.{lineMost};
-ghost use Rattle.session.specs.Steps.{nextOr};
 use libc::STDIN_FILENO;
 use libc::STDOUT_FILENO;
 use session::Begun;
-use session::Stepped;
+use turns::Shown;
 
 // The bytes of an area of the session's capacity, of the longest report, and of the longest line of text.
 const AREA: usize = layout::WORD_BYTES
@@ -24,45 +24,38 @@ const REPORT: usize = 24068;
 
 const LINE: usize = 33 + 6 * REPORT;
 
-// The position at which the session goes on after an answer, and `over` where it is over.
-fn goes_on(answer: Stepped, over: usize) -> usize
-    ensures { λ r. ⌜ r ≡ nextOr over answer ⌝ }
+// Prints the line that a turn shows; false where it cannot be printed.
+fn print(t: Shown, report: &[u8], text: &[u8]) -> bool
+    requires { ⌜ t .size ≤ length (cond (t .report) (now report) (now text)) ⌝ }
 {
-    match answer {
-        Stepped::Ended => over,
-        Stepped::Stopped(n) => over,
-        Stepped::Refused { refusal, next } => next,
-        Stepped::Added { entry, next } => next,
-        Stepped::Bound {
-            turned,
-            appended,
-            next,
-        } => next,
-        Stepped::Reported { length, next } => next,
+    let size = t.size;
+    if t.report {
+        return io::write_all(STDOUT_FILENO, &report[..size]);
     }
+    io::write_all(STDOUT_FILENO, &text[..size])
 }
 
-// Takes the step at position `at`, prints its line, and gives the position at which the session goes on: the end of the input
-// where it is over, or where its line cannot be printed.
-fn turn(input: &[u8], at: usize, area: &mut [u8], out: &mut [u8], text: &mut [u8]) -> usize
-    requires { ⌜ (at < length (now input)) × (lineMost 2 (length (now out)) ≤ length (now text)) ⌝ }
-    ensures { λ r. ⌜ (at < r) × (r ≤ length (now (input .entry))) ⌝ }
-{
-    let answer = session::step(input, at, area, out);
-    let n = lines::line(answer, out, text);
-    if !io::write_all(STDOUT_FILENO, &text[..n]) {
-        return input.len();
-    }
-    goes_on(answer, input.len())
-}
-
-// All steps from position `first` on.
-fn steps(input: &[u8], first: usize, area: &mut [u8], out: &mut [u8], text: &mut [u8])
-    requires { ⌜ (length (now out) ≡ longestSessionReport) × (length (now text) ≡ lineMost 2 longestSessionReport) ⌝ }
+// All steps from position `first` on, until the session is over or a line cannot be printed.
+fn steps(
+    input: &[u8],
+    first: usize,
+    area: &mut [u8],
+    out: &mut [u8],
+    report: &mut [u8],
+    text: &mut [u8],
+)
+    requires output { ⌜ length (now out) ≡ longestSessionReport ⌝ }
+    requires lines { ⌜ (length (now report) ≡ lineMost 2 longestSessionReport) × (length (now text) ≡ lineMost 2 longestSessionReport) ⌝ }
 {
     let mut at = first;
+    let mut kept: usize = 0;
     while at < input.len() {
-        at = turn(input, at, area, out, text);
+        let t = turns::turn(input, at, area, out, report, kept, text);
+        if !print(t, report, text) {
+            return;
+        }
+        at = t.next;
+        kept = t.kept;
     }
 }
 
@@ -76,9 +69,10 @@ fn run(input: &[u8]) {
         return;
     }
     let mut out = [0u8; REPORT];
+    let mut report = [0u8; LINE];
     match begun {
         Begun::Refused(refusal) => return,
-        Begun::At(first) => steps(input, first, &mut area, &mut out, &mut text),
+        Begun::At(first) => steps(input, first, &mut area, &mut out, &mut report, &mut text),
     }
 }
 

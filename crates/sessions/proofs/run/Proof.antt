@@ -49,8 +49,11 @@ slice-aggregate-steps-2 c = search needs
 slice-aggregate-steps-3 : tie.Need-slice-aggregate-steps-3
 slice-aggregate-steps-3 c = search needs
 
+slice-aggregate-steps-4 : tie.Need-slice-aggregate-steps-4
+slice-aggregate-steps-4 c = search needs
+
 steps-requires : tie.Need-steps-requires
-steps-requires c κs = (search needs, search needs)
+steps-requires c κs = (search needs, (search needs, search needs))
 
 returns-3 : tie.Need-returns-3
 returns-3 c = search needs
@@ -73,5 +76,6 @@ run-spec =
     slice-aggregate-steps
     slice-aggregate-steps-2
     slice-aggregate-steps-3
+    slice-aggregate-steps-4
     steps-requires
     returns-3)

@@ -1,30 +1,41 @@
--- `sessions::steps` ends: each turn leads behind its position. The loop keeps the buffers' lengths. Assumes nothing.
+-- `sessions::steps` ends: each turn leads behind its position. The loop keeps the buffers' lengths, and what is kept of the report.
+-- Assumes nothing.
 use mathlib.Core.Path.{_≡_, refl}
-use Prim.Native.Nat.{_-_}
+use mathlib.Core.List.{List}
+use Prim.Native.Nat.{ℕ, _-_, _<_, _≤_}
 use native.Mathlib.Omega.{arith}
 use borrow.Author.Needs.{needs}
+use denote.Ref.{now}
 use lib.ListN.{length}
+use Rattle.session.specs.Steps.{stepAt, nextOr}
+use Rattle.whole.proofs.Progress.{steps-go-on, goes-behind}
+use Rattle.turns.specs.Turns.{Kept}
 use Rattle.sessions.proofs.steps.Statement.{statement}
 use Rattle.sessions.proofs.steps.Tie as tie
 
 abbrev Inv-loop : tie.InvT-loop
-Inv-loop input first area₀ out₀ text₀ at₀ area out text at =
-    (length area ≡ length area₀) × (length out ≡ length out₀) × (length text ≡ length text₀)
+Inv-loop input first area₀ out₀ report₀ text₀ at₀ kept₀ area out report text at kept =
+    (length area ≡ length area₀) × (length out ≡ length out₀) × (length report ≡ length report₀) × (length text ≡ length text₀) × Kept area out report kept
 
 abbrev μ-loop : tie.MeasureT-loop
-μ-loop input first area₀ out₀ text₀ at₀ area out text at = length input - at
+μ-loop input first area₀ out₀ report₀ text₀ at₀ kept₀ area out report text at kept = length input - at
+
+-- a turn leads behind its position, so less is left
+less-left : (input area out : List ℕ) (at next : ℕ) → at < length input → next ≡ nextOr (length input) (stepAt input area out at .answer)
+    → length input - next < length input - at
+less-left input area out at next l e =
+    let on : (at < next) × (next ≤ length input) =
+    rw e (goes-behind at (length input) (stepAt input area out at .answer) (steps-go-on input at area out) l) in
+    omega (arith, on .0, on .1)
 
 loop-holds : tie.Need-loop-holds Inv-loop μ-loop
-loop-holds c = (refl, refl, refl)
+loop-holds c = (refl, refl, refl, refl, λ h. absurd (h refl))
 
 turn-requires : tie.Need-turn-requires Inv-loop μ-loop
-turn-requires c κs = search needs
+turn-requires c κs = ((search needs, search needs), c .before .before .before .before .before .loop .inv .4)
 
-loop-less : tie.Need-loop-less Inv-loop μ-loop
-loop-less c = search needs
-
-loop-again : tie.Need-loop-again Inv-loop μ-loop
-loop-again c = search needs
+print-requires : tie.Need-print-requires Inv-loop μ-loop
+print-requires c κs = c .before .before .before .before .before .before .before .before .before .before .turn .ensures .1 .1 .1 .0 .0
 
 same-length : tie.Need-same-length Inv-loop μ-loop
 same-length c = search needs
@@ -35,8 +46,37 @@ same-length-2 c = search needs
 same-length-3 : tie.Need-same-length-3 Inv-loop μ-loop
 same-length-3 c = search needs
 
+same-length-4 : tie.Need-same-length-4 Inv-loop μ-loop
+same-length-4 c = search needs
+
 returns : tie.Need-returns Inv-loop μ-loop
 returns c = search needs
+
+loop-less : tie.Need-loop-less Inv-loop μ-loop
+loop-less c =
+    let turned = c .before .before .before .before .before .before .before .before .before .before .before .before in
+    let tested = turned .before .before .before .before .before in
+    let top = tested .before in
+    let start = top .before .before .before .before .before .before in
+    less-left (now (start .args .input)) (top .loop .area) (top .loop .out) (top .loop .at) _ (tested .loop-test .taken) (turned .turn .ensures .1 .1 .0)
+
+loop-again : tie.Need-loop-again Inv-loop μ-loop
+loop-again c = (search needs, search needs, search needs, search needs, c .before .before .before .before .before .before .before .before .before .before .before .before .turn .ensures .1 .1 .1 .1)
+
+same-length-5 : tie.Need-same-length-5 Inv-loop μ-loop
+same-length-5 c = search needs
+
+same-length-6 : tie.Need-same-length-6 Inv-loop μ-loop
+same-length-6 c = search needs
+
+same-length-7 : tie.Need-same-length-7 Inv-loop μ-loop
+same-length-7 c = search needs
+
+same-length-8 : tie.Need-same-length-8 Inv-loop μ-loop
+same-length-8 c = search needs
+
+returns-2 : tie.Need-returns-2 Inv-loop μ-loop
+returns-2 c = search needs
 
 pub steps-spec : {M : Type 1} → statement M
 steps-spec =
@@ -46,9 +86,16 @@ steps-spec =
     μ-loop
     loop-holds
     turn-requires
-    loop-less
-    loop-again
+    print-requires
     same-length
     same-length-2
     same-length-3
-    returns)
+    same-length-4
+    returns
+    loop-less
+    loop-again
+    same-length-5
+    same-length-6
+    same-length-7
+    same-length-8
+    returns-2)

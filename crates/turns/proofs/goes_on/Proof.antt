@@ -1,9 +1,9 @@
--- `sessions::goes_on` meets its contract: each answer's position. Assumes nothing.
+-- `turns::goes_on` meets its contract: each answer's position. Assumes nothing.
 use mathlib.Core.Path.{sym, ap}
 use borrow.Author.Needs.{needs}
 use Rattle.session.specs.Steps.{nextOr}
-use Rattle.sessions.proofs.goes_on.Statement.{statement}
-use Rattle.sessions.proofs.goes_on.Tie as tie
+use Rattle.turns.proofs.goes_on.Statement.{statement}
+use Rattle.turns.proofs.goes_on.Tie as tie
 
 enum-told : tie.Need-enum-told
 enum-told c = search needs

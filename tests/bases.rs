@@ -217,8 +217,24 @@ fn brim(less: usize) -> Base {
     base
 }
 
+/// Lines of the terms from `first` on until there is room for one more and hardly for two.
+fn lined(terms: &[Term], first: u32, capacity: u32) -> Base {
+    let count = terms.len() as u32;
+    let mut base = Base::opened(terms, capacity - 9);
+    let pairs = (0..count).flat_map(|apart| (first..count - 1 - apart).step_by(2).map(move |l| (l, l + 1 + apart)));
+    for (l, r) in pairs.take(2 * terms.len()) {
+        base.step(Call::Add { l, r });
+    }
+    let steps = std::mem::take(&mut base.steps);
+    base = Base::opened(terms, capacity);
+    for step in steps {
+        base.step(step);
+    }
+    base
+}
+
 /// What the calls are measured on: of `count` terms one in sixteen is a variable, as many are constants, and the others are over
-/// eight of these; and lines until there is room for one more and hardly for two.
+/// eight of these; and lines of those.
 pub fn measured(random: &mut Random, count: u32, capacity: u32) -> Base {
     let (variables, leaves) = (count / 16, count / 8);
     let mut terms: Vec<Term> = (0..leaves).map(|t| if t < variables { Term::Variable } else { over(t, &[]) }).collect();
@@ -226,23 +242,72 @@ pub fn measured(random: &mut Random, count: u32, capacity: u32) -> Base {
         let arguments: Vec<u32> = (0..8).map(|_| random.below(u64::from(leaves)) as u32).collect();
         terms.push(over(4095, &arguments));
     }
-    let mut base = Base::opened(&terms, capacity - 9);
-    let pairs = (0..count).flat_map(|apart| (leaves..count - 1 - apart).step_by(2).map(move |l| (l, l + 1 + apart)));
-    for (l, r) in pairs.take(2 * count as usize) {
-        base.step(Call::Add { l, r });
+    lined(&terms, leaves, capacity)
+}
+
+/// Lists of eight numbers that, added to the arguments of a term over eight constants, leave the 64 bits that the library hashes it to (crate
+/// names) as they are: a short basis of the lattice of all such lists, found by reducing it (Lenstra, Lenstra, Lovász).
+const SAME_HASH: [[i32; 8]; 8] = [
+    [94, 55, -18, -29, -153, 42, -85, -3],
+    [-58, -10, 132, 78, -109, 92, -28, 126],
+    [-34, 147, -5, -84, -76, -33, 154, -176],
+    [40, -14, 134, -100, -64, 166, 93, -61],
+    [63, -52, 133, 23, 99, -13, -116, -172],
+    [-74, -115, -45, 68, -100, -46, -139, -98],
+    [50, 2, -41, 211, -121, 51, 101, 14],
+    [-51, 144, -73, 2, 120, 180, -23, -151],
+];
+
+/// 540 constants and 484 terms over eight of them, all different and all with one hash.
+fn one_hash() -> Base {
+    const LEAVES: i32 = 540;
+    let mut terms: Vec<Term> = (0..LEAVES as u32).map(|symbol| over(symbol, &[])).collect();
+    for code in 0..5_usize.pow(8) {
+        let mut arguments = [LEAVES / 2; 8];
+        for (i, difference) in SAME_HASH.iter().enumerate() {
+            let times = (code / 5_usize.pow(i as u32) % 5) as i32 - 2;
+            arguments.iter_mut().zip(difference).for_each(|(argument, by)| *argument += times * by);
+        }
+        if terms.len() < 1024 && arguments.iter().all(|argument| (0..LEAVES).contains(argument)) {
+            terms.push(over(4095, &arguments.map(|argument| argument as u32)));
+        }
     }
-    let steps = std::mem::take(&mut base.steps);
-    base = Base::opened(&terms, capacity);
-    for step in steps {
-        base.step(step);
+    lined(&terms, LEAVES as u32, 2048)
+}
+
+/// The bucket of a pair of names below 16,384 in the library's index (crate pairs).
+fn bucket(a: u32, b: u32) -> u64 {
+    (u64::from(a) * 16_384 + u64::from(b)) * 204_665 / 65_536 % 4_096
+}
+
+/// 568 constants and 456 terms over eight of them, whose pairs fill few buckets of the index: those of one bucket after the other.
+fn few_buckets() -> Base {
+    const LEAVES: u32 = 568;
+    let mut pairs: Vec<(u32, u32)> = (0..LEAVES).flat_map(|a| (0..LEAVES).map(move |b| (a, b))).collect();
+    pairs.sort_by_key(|&(a, b)| bucket(a, b));
+    let mut terms: Vec<Term> = (0..LEAVES).map(|symbol| over(symbol, &[])).collect();
+    for eight in pairs.chunks(8).take(228) {
+        terms.push(over(4095, &eight.iter().map(|pair| pair.0).collect::<Vec<u32>>()));
+        terms.push(over(4095, &eight.iter().map(|pair| pair.1).collect::<Vec<u32>>()));
+    }
+    let mut base = Base::opened(&terms, 2048);
+    for line in 0..227 {
+        base.step(Call::Add { l: LEAVES + 2 * line, r: LEAVES + 2 * line + 1 });
     }
     base
 }
 
 /// The bases that are hardest on one part of the work each: a chain of bindings, a deep term, values that are large as trees, a table
-/// filled to the brim.
-pub fn hard() -> [(&'static str, Base); 4] {
-    [("a chain of 1,023 bindings", chain(true)), ("terms 1,024 deep", deep()), ("511 levels, doubled", ladder()), ("a full table", brim(0))]
+/// filled to the brim, an index whose pairs share few buckets, and terms that the hash does not tell apart.
+pub fn hard() -> [(&'static str, Base); 6] {
+    [
+        ("a chain of 1,023 bindings", chain(true)),
+        ("terms 1,024 deep", deep()),
+        ("511 levels, doubled", ladder()),
+        ("a full table", brim(0)),
+        ("1,816 pairs in 24 buckets", few_buckets()),
+        ("484 terms of one hash", one_hash()),
+    ]
 }
 
 /// Large books, long chains, deep terms, full tables and lists of lines.

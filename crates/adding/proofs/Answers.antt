@@ -26,7 +26,8 @@ use Rattle.steps.specs.declared.Stepped.{Stepped}
 use Rattle.steps.specs.Stepped.{Leaves}
 use Rattle.steps.proofs.Tables.{ready-known, to-index}
 use Rattle.steps.proofs.Leaving.{table-words, leaves, gives-refused, gives-accepted}
-use Rattle.adding.specs.Adding.{ToGrow, IsGrown, GivenState, AddsLine}
+use Rattle.growing.specs.Growing.{ToGrow, IsGrown}
+use Rattle.adding.specs.Adding.{GivenState, AddsLine}
 
 -- the tests in their order
 module _ (lim : Limits) (s : State) (l r : ℕ) where

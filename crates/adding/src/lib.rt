@@ -3,45 +3,10 @@
 ghost use Rattle.theory.specs.Modest.{Modest};
 ghost use Rattle.layout.specs.Limits.{limitsOf};
 ghost use Rattle.kinds.specs.Known.{Room};
-ghost use Rattle.placing.specs.Stands.{GivenTable, Whatever};
-ghost use Rattle.adding.specs.Adding.{ToGrow, IsGrown, GivenState, AddsLine};
+ghost use Rattle.adding.specs.Adding.{GivenState, AddsLine};
 use area::Header;
 use layout::Limits;
-use placing::Placed;
 use steps::Stepped;
-
-// Places the terms `l` and `r` in the loaded table of `m` entries and walks it through. `ls`, `rs`, `hs` and `ns` are
-// scratch.
-fn grow(
-    rows: &[u32],
-    roots: &[u32],
-    names: &[u32],
-    entries: &mut [u32],
-    cap: usize,
-    m: usize,
-    l: u32,
-    r: u32,
-    ls: &mut [u32],
-    rs: &mut [u32],
-    hs: &mut [u32],
-    ns: &mut [u32],
-) -> Placed
-    requires { ⌜ GivenTable (ToGrow (now rows) (now roots) (now names) (now entries) (now ls) (now rs) (now hs) (now ns) cap m l r) ⌝ }
-    ensures { λ p. ⌜ Whatever (ToGrow (now (rows .entry)) (now (roots .entry)) (now (names .entry)) (now (entries .entry)) (now (ls .entry)) (now (rs .entry)) (now (hs .entry)) (now (ns .entry)) cap m l r)
-        (IsGrown (now (entries .exit)) (now (ls .exit)) (now (rs .exit)) (now (hs .exit)) (now (ns .exit)) cap l r p) ⌝ }
-{
-    saturate::index(names, entries, ls, rs, hs, ns, m);
-    let p = placing::place(names, entries, cap, m, l, r, ls, rs, hs, ns);
-    if p.full {
-        return p;
-    }
-    let w = saturate::walk(rows, roots, names, entries, cap, p.count, ls, rs, hs, ns);
-    Placed {
-        entry: p.entry,
-        count: w.count,
-        full: w.full,
-    }
-}
 
 // Adds the line of the terms `l` and `r`: 8 where one is no term, 12 where there is no room for a line, 11 where there is none for
 // its entries. The answer is the line's entry.
@@ -78,7 +43,7 @@ pub fn add_line(
     }
     let cap = h.capacity as usize;
     let m = h.entries as usize;
-    let g = grow(rows, roots, names, entries, cap, m, l, r, ls, rs, hs, ns);
+    let g = growing::grow(rows, roots, names, entries, cap, m, l, r, ls, rs, hs, ns);
     if g.full {
         return steps::refused(11);
     }

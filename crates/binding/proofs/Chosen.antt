@@ -32,7 +32,8 @@ use Rattle.steps.specs.Stepped.{after, Leaves, Gives}
 use Rattle.steps.specs.declared.Stepped.{Stepped}
 use Rattle.steps.proofs.Tables.{held-table}
 use Rattle.steps.proofs.Leaving.{table-words, leaves, gives-refused, gives-accepted}
-use Rattle.rebuilding.specs.Rebuilding.{walkedAnswer, IsSettled, ToRebuild}
+use Rattle.settling.specs.Settled.{walkedAnswer, IsSettled}
+use Rattle.rebuilding.specs.Rebuilding.{ToRebuild}
 use Rattle.binding.specs.Choice.{Asked, earlyRefusal}
 use Rattle.binding.proofs.Tests.{choice-numbers, Passed, passed, bind-tests}
 use Rattle.binding.proofs.Words.{bound-set, words-set}

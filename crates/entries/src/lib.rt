@@ -1,13 +1,10 @@
-// The tests of a loaded table that look at pairs of entries, and with them all tests of its values, on names and roots that are
-// computed already (kinds specs/Known.antt, specs/Tests.antt). They only read the table; `lefts`, `rights`, `heads` and `next`
+// The test of same-as in a loaded table, and with it all tests that look at values and at pairs of entries, on names and roots that
+// are computed already (kinds specs/Known.antt, specs/Tests.antt). They only read the table; `lefts`, `rights`, `heads` and `next`
 // are scratch.
 
-ghost use mathlib.Core.Path.{_≡_};
 ghost use mathlib.Core.Bool.{_&&_};
-ghost use Prim.Native.Nat.{_*_, _≤_};
-ghost use lib.ListN.{length};
 ghost use Rattle.model.specs.Lists.{all};
-ghost use Rattle.model.specs.Area.{entryRowWords, distinct};
+ghost use Rattle.model.specs.Area.{distinct};
 ghost use Rattle.layout.specs.Rows.{tableOf};
 ghost use Rattle.sound.specs.Sound.{valuesOk};
 ghost use Rattle.kinds.specs.Known.{Named, Known, Given, Answers, Room};
@@ -44,40 +41,6 @@ fn same_as_ok(
     true
 }
 
-// Whether no two of the `m` entries hold the same two term numbers.
-fn distinct_ok(
-    m: usize,
-    entries: &[u32],
-    lefts: &mut [u32],
-    rights: &mut [u32],
-    heads: &mut [u32],
-    next: &mut [u32],
-) -> bool
-    requires rows { ⌜ entryRowWords * m ≤ length (now entries) ⌝ }
-    requires room { ⌜ Room (now lefts) (now rights) (now heads) (now next) m ⌝ }
-    ensures { λ x. ⌜ x ≡ distinct (tableOf (now (entries .entry)) m) ⌝ }
-{
-    pairs::clear(heads);
-    let mut i = 0;
-    while i < m {
-        let row = ENTRY_WORDS * i;
-        let place = pairs::push(
-            lefts,
-            rights,
-            heads,
-            next,
-            i,
-            entries[row],
-            entries[row + 1],
-        );
-        if place != i {
-            return false;
-        }
-        i += 1;
-    }
-    true
-}
-
 // Whether the table of `m` entries passes the tests that look at values and at pairs of entries.
 pub fn table_ok(
     lefts: &mut [u32],
@@ -102,5 +65,5 @@ pub fn table_ok(
     if !same_as_ok(names, entries, m, lefts, rights, heads, next) {
         return false;
     }
-    distinct_ok(m, entries, lefts, rights, heads, next)
+    distinct::distinct_ok(m, entries, lefts, rights, heads, next)
 }

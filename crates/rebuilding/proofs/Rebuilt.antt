@@ -15,9 +15,11 @@ use Rattle.kinds.proofs.Room.{room-kept}
 use Rattle.valued.specs.Valued.{Valued}
 use Rattle.placing.specs.Stands.{Whatever}
 use Rattle.table.proofs.Sizes.{SameSizes}
-use Rattle.saturate.specs.Steps.{ToWalk, ToIndex, IsIndexed}
+use Rattle.indexing.specs.Indexing.{ToIndex, IsIndexed}
+use Rattle.indexing.proofs.Standing.{indexed-stands}
+use Rattle.saturate.specs.Steps.{ToWalk}
 use Rattle.state.proofs.Rooms.{fewer-entries}
-use Rattle.steps.proofs.Tables.{valued-names, valued-known, indexed-stands}
+use Rattle.steps.proofs.Tables.{valued-names, valued-known}
 use Rattle.rebuilding.specs.Rebuilding.{ToRebuild}
 
 module _ {h : Header} {rows bindings list roots names entries lefts rights heads next : List ℕ}

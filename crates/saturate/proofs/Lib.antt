@@ -1,4 +1,2 @@
-pub mod Indexing
-pub mod Settling
 pub mod Turned
 pub mod Walking

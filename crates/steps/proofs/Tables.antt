@@ -1,14 +1,13 @@
 -- From a loaded, sound state to what the functions of the pair table ask. Assumes nothing.
 use mathlib.Core.Path.{_≡_}
 use mathlib.Core.List.{List, []}
-use Prim.Native.Nat.{ℕ, _*_, _≤_}
+use Prim.Native.Nat.{ℕ, _*_}
 use native.Mathlib.Omega.{arith}
 use lib.ListN.{length}
 use lib.Dec.{T}
 use Rattle.model.specs.Limits.{Limits}
 use Rattle.model.specs.Lists.{all, from}
-use Rattle.model.specs.Term.{Book, Bindings}
-use Rattle.model.specs.Table.{Table}
+use Rattle.model.specs.Term.{Bindings}
 use Rattle.model.specs.Step.{State}
 use Rattle.model.specs.Area.{entryRowWords}
 use Rattle.theory.proofs.Area.Layout.{wide-entries, length-entries}
@@ -18,14 +17,12 @@ use Rattle.rows.specs.RowTests.{entryRowsOk, zeroFrom}
 use Rattle.sound.proofs.Parts.{Holds}
 use Rattle.kinds.specs.Known.{Room}
 use Rattle.kinds.proofs.Loaded.{named-loaded, known-loaded}
-use Rattle.kinds.proofs.Room.{room-kept}
 use Rattle.valued.specs.Valued.{Valued}
 use Rattle.state.specs.Ready.{Ready}
 use Rattle.valued.proofs.Values.{front}
 use Rattle.state.proofs.Rooms.{fewer-entries}
-use Rattle.placing.specs.Stands.{HoldsTable, KnownNames, KnownTerms, Stands}
-use Rattle.table.proofs.Sizes.{SameSizes}
-use Rattle.saturate.specs.Steps.{ToIndex, IsIndexed}
+use Rattle.placing.specs.Stands.{HoldsTable, KnownNames, KnownTerms}
+use Rattle.indexing.specs.Indexing.{ToIndex}
 
 -- no row of an entry is in order
 no-rows : (n : ℕ) → T (entryRowsOk [] 0 n)
@@ -70,19 +67,3 @@ module _ {lim : Limits} {w : Loaded} {s : State} (f : SoundFacts lim s) (h : Hol
         right-term = f .table .right-term;
         room = fewer-entries (omega (arith, f .few-entries, h .entries-count, h .the-capacity)) room;
       }
-
--- an indexed table stands in its slices
-pub indexed-stands : {names entries lefts rights heads next lefts′ rights′ heads′ next′ : List ℕ} {capacity m : ℕ} {b : Book} {β : Bindings} {es : Table}
-    → ToIndex names entries lefts rights heads next m b β es → IsIndexed lefts′ rights′ heads′ next′ m b β es
-    → length entries ≡ entryRowWords * capacity → Room lefts rights heads next capacity
-    → SameSizes entries lefts rights heads next entries lefts′ rights′ heads′ next′
-    → Stands entries lefts′ rights′ heads′ next′ capacity m b β es
-indexed-stands q done long room sizes =
-    record {
-      count = q .count;
-      held = q .held;
-      long = long;
-      room = room-kept room (sizes .left-size) (sizes .right-size) (sizes .heads-size) (sizes .next-size);
-      indexed = done .indexed;
-      names = done .names;
-    }

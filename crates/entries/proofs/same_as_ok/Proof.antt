@@ -16,7 +16,7 @@ use Rattle.layout.proofs.Rows.{length-tableOf}
 use Rattle.rows.proofs.Loops.{Passed, each-passed, one-failed}
 use Rattle.kinds.specs.Known.{Named, Room}
 use Rattle.entries.specs.Tests.{sameAsRight}
-use Rattle.entries.proofs.Places.{Filling, placeBy, filling-none, filled-place, push-room, filling-more}
+use Rattle.distinct.proofs.Places.{Filling, placeBy, filling-none, filled-place, push-room, filling-more}
 use Rattle.kinds.proofs.Rows.{entry-left, entry-right, left-lt, right-lt}
 use Rattle.entries.proofs.Table.{same-as-place}
 use Rattle.entries.proofs.same_as_ok.Statement.{statement}

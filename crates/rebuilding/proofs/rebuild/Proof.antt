@@ -1,10 +1,11 @@
 -- `rebuilding::rebuild` meets its contract: the terms have names, so the table is indexed by them, and then walked through. Assumes
 -- nothing.
-use mathlib.Core.Path.{refl, _∙_}
+use mathlib.Core.Path.{_∙_}
 use borrow.Author.Needs.{needs}
 use borrow.Author.Tests.{not-false}
 use denote.Ref.{now}
 use Rattle.layout.specs.Rows.{bookOf, boundOf, tableOf}
+use Rattle.indexing.proofs.Standing.{index-sizes}
 use Rattle.saturate.specs.Steps.{ToWalk}
 use Rattle.rebuilding.proofs.Rebuilt.{never-refused, to-index, to-walk}
 use Rattle.rebuilding.proofs.rebuild.Statement.{statement}
@@ -38,9 +39,8 @@ walk-at : (i : tie.After-index) →
 walk-at i =
     let n = i .before .before .before .before .before .before .before .before .before .before .before .before .before .before .before .before .before .before .before .before .before .before .before in
     let k = n .name-terms .kept .1 .1 .1 .1 .1 in
-    let l = i .index .kept .1 .1 in
     to-walk (n .before .before .before .before .before .before .before .before .before .before .before .before .before .before .before .before .before .before .pre) (n .name-terms .ensures .1 (not-false _ (i .before .before .before .before .before .before .before .before .if1 .left))) (k .0) (k .1 .1 .0) (k .1 .1 .1 .0) (k .1 .1 .1 .1 .0)
-    (record { entries-size = refl; left-size = l .0; right-size = l .1 .0; heads-size = l .1 .1 .0; next-size = l .1 .1 .1 .0 })
+    (index-sizes (i .index .kept .1 .1))
     (i .index .ensures)
 
 walk-and-settle-requires : tie.Need-walk-and-settle-requires

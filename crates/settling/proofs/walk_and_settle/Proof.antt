@@ -1,10 +1,10 @@
--- `rebuilding::walk_and_settle` meets its contract: the walk is full, or what it leaves is settled. Assumes nothing.
+-- `settling::walk_and_settle` meets its contract: the walk is full, or what it leaves is settled. Assumes nothing.
 use mathlib.Core.Path.{_∙_}
 use native.Mathlib.Omega.{arith}
 use borrow.Author.Needs.{needs}
-use Rattle.rebuilding.proofs.Walked.{Ranges, walked-full, settle-given, ranges, walked-settled}
-use Rattle.rebuilding.proofs.walk_and_settle.Statement.{statement}
-use Rattle.rebuilding.proofs.walk_and_settle.Tie as tie
+use Rattle.settling.proofs.Walked.{Ranges, walked-full, settle-given, ranges, walked-settled}
+use Rattle.settling.proofs.walk_and_settle.Statement.{statement}
+use Rattle.settling.proofs.walk_and_settle.Tie as tie
 
 returns : tie.Need-returns
 returns c = walked-full (c .before .before .before .before .before .before .before .before .before .before .before .before .before .before .before .before .before .before .before .before .before .before .before .before .before .before .before .before .args .h) (c .before .before .before .before .before .before .before .before .before .before .before .before .walk .ensures) (c .before .if1 .taken) (c .refused .ensures)

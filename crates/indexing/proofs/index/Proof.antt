@@ -1,12 +1,12 @@
--- `saturate::index` meets its contract: after `i` entries their names are indexed. The measure is the entries that are left. Assumes
+-- `indexing::index` meets its contract: after `i` entries their names are indexed. The measure is the entries that are left. Assumes
 -- nothing.
-use mathlib.Core.Path.{refl}
 use Prim.Native.Nat.{_-_}
 use native.Mathlib.Omega.{arith}
 use borrow.Author.Needs.{needs}
-use Rattle.saturate.proofs.Indexing.{Indexing, indexing-none, left-lt, right-lt, next-room, indexing-more, indexing-all}
-use Rattle.saturate.proofs.index.Statement.{statement}
-use Rattle.saturate.proofs.index.Tie as tie
+use Rattle.indexing.proofs.Indexing.{Indexing, indexing-none, left-lt, right-lt, next-room, indexing-more, indexing-all}
+use Rattle.indexing.proofs.Standing.{index-sizes}
+use Rattle.indexing.proofs.index.Statement.{statement}
+use Rattle.indexing.proofs.index.Tie as tie
 
 abbrev Inv-loop : tie.InvT-loop
 Inv-loop names entries lefts₀ rights₀ heads₀ next₀ m i₀ lefts rights heads next i =
@@ -45,9 +45,8 @@ push-requires c κs =
 
 loop-again : tie.Need-loop-again Inv-loop μ-loop
 loop-again c =
-    let k = c .before .before .before .before .before .before .before .before .push .kept in
     indexing-more (c .before .before .before .before .before .before .before .before .before .before .before .before .before .before .before .before .before .before .before .loop .inv) (c .before .before .before .before .before .before .before .before .before .before .before .before .before .before .before .before .before .before .loop-test .taken) _ (c .before .before .before .before .before .before .before .before .before .before .before .before .before .before .before .before .before .entry-at .ensures) (c .before .before .before .before .before .before .before .before .push .ensures)
-    (record { entries-size = refl; left-size = k .0; right-size = k .1 .0; heads-size = k .1 .1 .0; next-size = k .1 .1 .1 .0 })
+    (index-sizes (c .before .before .before .before .before .before .before .before .push .kept))
 
 returns : tie.Need-returns Inv-loop μ-loop
 returns c = indexing-all (c .before .loop .inv) _ (c .loop-test .left)

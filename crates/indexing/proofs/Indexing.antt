@@ -21,7 +21,7 @@ use Rattle.placing.proofs.Held.{held-row}
 use Rattle.placing.proofs.Names.{names-more}
 use Rattle.table.proofs.Sizes.{SameSizes, same-sizes, sizes-trans}
 use Rattle.table.proofs.Turning.{row-left, row-right}
-use Rattle.saturate.specs.Steps.{ToIndex, IsIndexed}
+use Rattle.indexing.specs.Indexing.{ToIndex, IsIndexed}
 
 -- The first i entries are indexed.
 pub record IndexedTo (lefts rights heads next : List ℕ) (i : ℕ) (b : Book) (β : Bindings) (es : Table) : Type 0 where

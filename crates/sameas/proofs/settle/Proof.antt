@@ -1,11 +1,11 @@
--- `saturate::settle` meets its contract: after `i` entries those have their same-as. The measure is the entries that are left.
+-- `sameas::settle` meets its contract: after `i` entries those have their same-as. The measure is the entries that are left.
 -- Assumes nothing.
 use Prim.Native.Nat.{_-_}
 use native.Mathlib.Omega.{arith}
 use borrow.Author.Needs.{needs}
-use Rattle.saturate.proofs.Settling.{Settling, settling-none, same-as-word, settling-more, settling-all}
-use Rattle.saturate.proofs.settle.Statement.{statement}
-use Rattle.saturate.proofs.settle.Tie as tie
+use Rattle.sameas.proofs.Settling.{Settling, settling-none, same-as-word, settling-more, settling-all}
+use Rattle.sameas.proofs.settle.Statement.{statement}
+use Rattle.sameas.proofs.settle.Tie as tie
 
 abbrev Inv-loop : tie.InvT-loop
 Inv-loop entries₀ m lefts rights heads next i₀ entries i = Settling entries₀ lefts rights heads next m entries i

@@ -1,9 +1,10 @@
--- `adding::grow` meets its contract: each part asks what the one before it left. Assumes nothing.
+-- `growing::grow` meets its contract: each part asks what the one before it left. Assumes nothing.
 use mathlib.Core.Path.{_∙_}
 use borrow.Author.Needs.{needs}
-use Rattle.adding.proofs.Growing.{index-sizes, index-given, place-given, grown-full, walk-given, grown}
-use Rattle.adding.proofs.grow.Statement.{statement}
-use Rattle.adding.proofs.grow.Tie as tie
+use Rattle.indexing.proofs.Standing.{index-sizes}
+use Rattle.growing.proofs.Growing.{index-given, place-given, grown-full, walk-given, grown}
+use Rattle.growing.proofs.grow.Statement.{statement}
+use Rattle.growing.proofs.grow.Tie as tie
 
 index-requires : tie.Need-index-requires
 index-requires c κs = index-given (c .before .before .before .before .before .before .before .before .before .before .before .before .before .pre)

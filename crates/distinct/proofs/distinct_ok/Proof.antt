@@ -1,4 +1,4 @@
--- `entries::distinct_ok` meets its contract: the loop's invariant says that the pairs of the entries before `i` are pushed and
+-- `distinct::distinct_ok` meets its contract: the loop's invariant says that the pairs of the entries before `i` are pushed and
 -- that each had its first place there, and the measure is the entries that are left. Assumes nothing.
 use mathlib.Core.Path.{_≡_, sym, _∙_}
 use Prim.Native.Nat.{_-_}
@@ -12,11 +12,11 @@ use Rattle.layout.specs.Rows.{tableOf}
 use Rattle.layout.proofs.Rows.{length-tableOf}
 use Rattle.rows.proofs.Loops.{Passed}
 use Rattle.kinds.specs.Known.{Room}
-use Rattle.entries.proofs.Places.{Filling, placeBy, filling-none, filled-place, push-room, filling-more}
+use Rattle.distinct.proofs.Places.{Filling, placeBy, filling-none, filled-place, push-room, filling-more}
 use Rattle.kinds.proofs.Rows.{entry-left, entry-right}
-use Rattle.entries.proofs.Table.{ownPlace, all-distinct, not-distinct}
-use Rattle.entries.proofs.distinct_ok.Statement.{statement}
-use Rattle.entries.proofs.distinct_ok.Tie as tie
+use Rattle.distinct.proofs.Own.{ownPlace, all-distinct, not-distinct}
+use Rattle.distinct.proofs.distinct_ok.Statement.{statement}
+use Rattle.distinct.proofs.distinct_ok.Tie as tie
 
 abbrev Inv-loop : tie.InvT-loop
 Inv-loop m entries lefts₀ rights₀ heads₀ next₀ i₀ lefts rights heads next i =

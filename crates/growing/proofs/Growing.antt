@@ -1,11 +1,10 @@
 -- Placing a pair in a loaded table and walking it through: what each part asks, and what they come to. Assumes nothing.
-use mathlib.Core.Path.{_≡_, refl, sym, _∙_}
+use mathlib.Core.Path.{_≡_, sym, _∙_}
 use mathlib.Core.List.{List}
 use mathlib.Core.Bool.{true, false, true≢false}
 use Prim.Native.Nat.{ℕ, suc}
 use native.Mathlib.Omega.{arith}
 use borrow.Author.Tests.{lt-ltb, ltb-true}
-use lib.ListN.{length}
 use Rattle.model.specs.Term.{Book, Bindings}
 use Rattle.model.specs.Table.{Table, place}
 use Rattle.theory.proofs.Table.Place.{walk-extends}
@@ -13,17 +12,11 @@ use Rattle.placing.specs.Stands.{GivenTable, Whatever}
 use Rattle.placing.specs.Steps.{ToPlace, IsPlaced}
 use Rattle.placing.specs.declared.Placed.{Placed}
 use Rattle.table.proofs.Sizes.{SameSizes}
-use Rattle.saturate.specs.Steps.{ToIndex, IsIndexed, ToWalk, IsWalked}
+use Rattle.indexing.specs.Indexing.{ToIndex, IsIndexed}
+use Rattle.indexing.proofs.Standing.{indexed-stands}
+use Rattle.saturate.specs.Steps.{ToWalk, IsWalked}
 use Rattle.saturate.specs.declared.Walked.{Walked}
-use Rattle.steps.proofs.Tables.{indexed-stands}
-use Rattle.adding.specs.Adding.{ToGrow, IsGrown}
-
--- the index leaves the rows, and each of its slices keeps its length
-pub index-sizes : {X : Type 0} {entries lefts rights heads next lefts′ rights′ heads′ next′ : List ℕ}
-    → (length lefts′ ≡ length lefts) × ((length rights′ ≡ length rights) × ((length heads′ ≡ length heads) × ((length next′ ≡ length next) × X)))
-    → SameSizes entries lefts rights heads next entries lefts′ rights′ heads′ next′
-index-sizes k =
-    record { entries-size = refl; left-size = k .0; right-size = k .1 .0; heads-size = k .1 .1 .0; next-size = k .1 .1 .1 .0 }
+use Rattle.growing.specs.Growing.{ToGrow, IsGrown}
 
 module _ {rows roots names entries lefts₀ rights₀ heads₀ next₀ : List ℕ} {capacity m l r : ℕ} where
   pub index-given : GivenTable (ToGrow rows roots names entries lefts₀ rights₀ heads₀ next₀ capacity m l r)

@@ -17,7 +17,7 @@ use Rattle.entry.specs.declared.Entry.{Entry as Row}
 use Rattle.kinds.proofs.Names.{entryOf-place}
 use Rattle.placing.specs.Stands.{HoldsTable, Whatever}
 use Rattle.placing.proofs.Held.{held-row, held-set}
-use Rattle.saturate.specs.Steps.{ToSettle}
+use Rattle.sameas.specs.Settling.{ToSettle}
 
 -- A row and an entry with another same-as.
 abbrev pub resameRow : Row → ℕ → Row

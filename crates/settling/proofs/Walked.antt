@@ -13,11 +13,12 @@ use Rattle.theory.proofs.Table.Place.{walk-extends}
 use Rattle.area.specs.declared.Header.{Header}
 use Rattle.placing.specs.Stands.{HoldsTable, GivenTable, Whatever}
 use Rattle.placing.proofs.Placing.{few-entries}
-use Rattle.saturate.specs.Steps.{ToWalk, IsWalked, ToSettle}
+use Rattle.sameas.specs.Settling.{ToSettle}
+use Rattle.saturate.specs.Steps.{ToWalk, IsWalked}
 use Rattle.saturate.specs.declared.Walked.{Walked}
 use Rattle.saturate.proofs.Turned.{at-most-one}
 use Rattle.steps.specs.declared.Stepped.{Stepped}
-use Rattle.rebuilding.specs.Rebuilding.{walkedAnswer, IsSettled}
+use Rattle.settling.specs.Settled.{walkedAnswer, IsSettled}
 
 -- no more entries turn than there were
 turned-few : (old new : Table) → turned old new ≤ length old

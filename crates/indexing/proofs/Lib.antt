@@ -1,0 +1,2 @@
+mod Indexing
+pub mod Standing

@@ -1,0 +1,30 @@
+// The index of a pair table in slices, as its definition says (specs/Indexing.antt; document 01, "The pair table"). The slices are
+// those of crate `table`.
+
+ghost use Rattle.placing.specs.Stands.{GivenTable, Whatever};
+ghost use Rattle.indexing.specs.Indexing.{ToIndex, IsIndexed};
+
+// Builds the index of the table of `m` entries: their names are pushed in order.
+pub fn index(
+    names: &[u32],
+    entries: &[u32],
+    lefts: &mut [u32],
+    rights: &mut [u32],
+    heads: &mut [u32],
+    next: &mut [u32],
+    m: usize,
+)
+    requires { ⌜ GivenTable (ToIndex (now names) (now entries) (now lefts) (now rights) (now heads) (now next) m) ⌝ }
+    ensures { λ _. ⌜ Whatever (ToIndex (now (names .entry)) (now (entries .entry)) (now (lefts .entry)) (now (rights .entry)) (now (heads .entry)) (now (next .entry)) m)
+        (IsIndexed (now (lefts .exit)) (now (rights .exit)) (now (heads .exit)) (now (next .exit)) m) ⌝ }
+{
+    pairs::clear(heads);
+    let mut i = 0;
+    while i < m {
+        let e = entry::entry_at(entries, i);
+        let left = names[e.left as usize];
+        let right = names[e.right as usize];
+        pairs::push(lefts, rights, heads, next, i, left, right);
+        i += 1;
+    }
+}

@@ -1,0 +1,29 @@
+// Same-as of a pair table in slices, as its definition says (specs/Settling.antt; document 01, "The pair table"). The slices are those
+// of crate `table`.
+
+ghost use Rattle.model.specs.Table.{settle};
+ghost use Rattle.placing.specs.Stands.{HoldsTable, GivenTable, Whatever};
+ghost use Rattle.sameas.specs.Settling.{ToSettle};
+
+// Sets same-as of the `m` entries: of each, the first entry with its two names.
+pub fn settle(
+    entries: &mut [u32],
+    m: usize,
+    lefts: &[u32],
+    rights: &[u32],
+    heads: &[u32],
+    next: &[u32],
+)
+    requires { ⌜ GivenTable (ToSettle (now entries) (now lefts) (now rights) (now heads) (now next) m) ⌝ }
+    ensures { λ _. ⌜ Whatever (ToSettle (now (entries .entry)) (now (lefts .entry)) (now (rights .entry)) (now (heads .entry)) (now (next .entry)) m)
+        (λ b β es. HoldsTable (now (entries .exit)) (settle b β es)) ⌝ }
+{
+    let mut i = 0;
+    while i < m {
+        let found = pairs::find(lefts, rights, heads, next, m, lefts[i], rights[i]);
+        let mut e = entry::entry_at(entries, i);
+        e.same_as = found as u32;
+        entry::put_entry(entries, i, e);
+        i += 1;
+    }
+}

@@ -1,6 +1,6 @@
 -- From a step's answer to the outcome of its call. Assumes nothing.
 use mathlib.Core.Path.{_≡_, refl, sym, ap, _∙_}
-use mathlib.Core.List.{List}
+use mathlib.Core.List.{List, [], _∷_}
 use mathlib.Core.Bool.{Bool, true, false}
 use Prim.Native.Nat.{ℕ, _≤_}
 use lib.ListN.{length}
@@ -63,6 +63,18 @@ module _ (lim : Limits) (area : List ℕ) (a b : ℕ) where
   called w w′ {fixes} {s} {area′} t same g e =
       let o = answered lim w′ (s .refusal) (numbersOf fixes s) area area′ (stepOf lim fixes (stateOf area lim) a b) (rw same at g) e in
       rw (of-step fixes s t) (record { refusal = o .0; numbers = o .1; bytes = o .2 })
+
+  -- either call by itself: a line was added, or a choice was fixed
+  module _ {s : Stepped} {area′ : List ℕ} where
+    pub line-added : Called (callStep lim false area a b) false s area′
+        → let o = callAdd lim area a b in (s .refusal ≡ o .refusal) × ((s .first ∷ [] ≡ o .numbers) × (area′ ≡ o .area))
+    unfolding callStep numbersOf
+    line-added c = (c .refusal, (c .numbers, c .bytes))
+
+    pub choice-fixed : Called (callStep lim true area a b) true s area′
+        → let o = callBind lim area a b in (s .refusal ≡ o .refusal) × ((s .first ∷ s .second ∷ [] ≡ o .numbers) × (area′ ≡ o .area))
+    unfolding callStep numbersOf
+    choice-fixed c = (c .refusal, (c .numbers, c .bytes))
 
 -- a sound area has room for what is stored
 pub stored-fits : (lim : Limits) (area : List ℕ) (w : Loaded) → sound lim area ≡ true → loadedState w ≡ stateOf area lim

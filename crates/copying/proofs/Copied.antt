@@ -1,6 +1,6 @@
 -- Copying a book by way of its rows: the rows hold the book, and what is emitted of it is the outcome of the call. Assumes
 -- nothing.
-use mathlib.Core.Path.{_≡_, refl, _∙_}
+use mathlib.Core.Path.{_≡_, refl, ap, _∙_}
 use mathlib.Core.List.{List, [], map}
 use mathlib.Core.Option.{none}
 use Prim.Native.Nat.{ℕ, _*_}
@@ -9,14 +9,24 @@ use Rattle.model.specs.Limits.{office}
 use Rattle.model.specs.Term.{Node, Book}
 use Rattle.model.specs.Area.{termWords}
 use Rattle.model.specs.BookBytes.{parseBook, bookBytes}
-use Rattle.model.specs.Call.{refuse, emit, callCopy}
+use Rattle.model.specs.Call.{refuse, emit, copyParsed, callCopy}
 use Rattle.theory.proofs.Book.Round.{parsed-formed}
 use Rattle.layout.specs.Rows.{bookOf}
 use Rattle.runs.specs.Emits.{Writes}
 use Rattle.runs.proofs.Emitted.{writes}
 use Rattle.decoding.specs.Rows.{bookRows, refusalOf, decodedBook}
-use Rattle.copying.proofs.OpenCases.{decoded, copy-refused, copy-parsed}
+use Rattle.decoding.proofs.Outcome.{decoded, not-decoded}
 use Rattle.copying.proofs.BookHeld.{BookHeld, held-book}
+
+-- the call, from the outcome of the decoder
+module _ (book out : List ℕ) where
+  copy-refused : (refusalOf (parseBook office book) ≡ 0 → ⊥) → callCopy office book out ≡ refuse 1 (refusalOf (parseBook office book)) [] out
+  unfolding callCopy copyParsed
+  copy-refused n = ap (copyParsed out) (not-decoded book n)
+
+  copy-parsed : refusalOf (parseBook office book) ≡ 0 → callCopy office book out ≡ emit (bookBytes (decodedBook (parseBook office book))) [] out
+  unfolding callCopy copyParsed
+  copy-parsed z = ap (copyParsed out) (decoded book z .1)
 
 -- a book that is refused
 pub copied-refused : (book out : List ℕ) (n : ℕ) → n ≡ refusalOf (parseBook office book) → (n ≡ 0 → ⊥) → Writes (callCopy office book out) n 0 out

@@ -1,3 +1,2 @@
-pub mod OpenCases
 pub mod BookHeld
 pub mod Copied

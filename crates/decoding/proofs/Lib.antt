@@ -1,6 +1,7 @@
 pub mod Arguments
 pub mod Book
 pub mod Counts
+pub mod Outcome
 pub mod Parsing
 pub mod Term
 pub mod TermRows

@@ -4,14 +4,14 @@ ghost use mathlib.Core.Path.{_≡_};
 ghost use mathlib.Core.List.{[], _∷_};
 ghost use Rattle.model.specs.Limits.{office};
 ghost use Rattle.model.specs.Call.{callOpen, callAdd, callBind, callCopy, callEntry, callReport, callWrite};
-ghost use Rattle.copying.specs.Offered.{neededLength};
+ghost use Rattle.opening.specs.Offered.{neededLength};
 
 // The length in bytes that an area of this capacity needs, 0 for a capacity out of range.
 #[no_mangle]
 pub extern "C" fn fit_area_length(capacity: u32) -> usize
     ensures { λ r. ⌜ r ≡ neededLength capacity ⌝ }
 {
-    copying::area_length(capacity)
+    opening::area_length(capacity)
 }
 
 // Opens a book in an area: 4 for the capacity, 7 for an area that is too short, then the book's refusals. Where it is
@@ -21,7 +21,7 @@ pub extern "C" fn fit_open(capacity: u32, book: &[u8], area: &mut [u8]) -> u32
     ensures refusal { λ r. ⌜ r ≡ callOpen office capacity (now (book .entry)) (now (area .entry)) .refusal ⌝ }
     ensures area { λ r. ⌜ now (area .exit) ≡ callOpen office capacity (now (book .entry)) (now (area .entry)) .area ⌝ }
 {
-    copying::open(capacity, book, area)
+    opening::open(capacity, book, area)
 }
 
 // Adds the line (`l`, `r`): 7 for an area that is not sound, 8 where one is no term, 12 where there is no room for a line, 11 where
@@ -76,7 +76,7 @@ pub extern "C" fn fit_entry(area: &[u8], i: u32, fields: &mut [u32; layout::ENTR
     ensures refusal { λ r. ⌜ r ≡ callEntry office (now (area .entry)) i .refusal ⌝ }
     ensures fields { λ r. ⌜ now (fields .exit) ≡ callEntry office (now (area .entry)) i .numbers ⌝ }
 {
-    views::entry(area, i, fields)
+    viewing::entry(area, i, fields)
 }
 
 // Writes the book of an area: 7 for an area that is not sound, then 13 where `out` is too short. `written` is the number of bytes
@@ -87,7 +87,7 @@ pub extern "C" fn fit_write(area: &[u8], out: &mut [u8], written: &mut u32) -> u
     ensures written { λ r. ⌜ now (written .exit) ∷ [] ≡ callWrite office (now (area .entry)) (now (out .entry)) .numbers ⌝ }
     ensures output { λ r. ⌜ now (out .exit) ≡ callWrite office (now (area .entry)) (now (out .entry)) .output ⌝ }
 {
-    views::write(area, out, written)
+    writing::write(area, out, written)
 }
 
 // Reports an area: 7 for an area that is not sound, then 13 where `out` is too short. `written` is the number of bytes written,
@@ -98,5 +98,5 @@ pub extern "C" fn fit_report(area: &[u8], out: &mut [u8], written: &mut u32) -> 
     ensures written { λ r. ⌜ now (written .exit) ∷ [] ≡ callReport office (now (area .entry)) (now (out .entry)) .numbers ⌝ }
     ensures output { λ r. ⌜ now (out .exit) ≡ callReport office (now (area .entry)) (now (out .entry)) .output ⌝ }
 {
-    views::report(area, out, written)
+    reporting::report(area, out, written)
 }

@@ -1,5 +1,6 @@
 // The numbers of an area's layout and the limits, each once (docs/LAYOUT.md).
-// Functions below `office` take the limits as parameters; only `office` and `fit` name the office's.
+// Only `loaded`, `office`, `opening`, `copying`, `viewing`, `writing` and `reporting` name the office's; functions below them take the
+// limits as parameters.
 
 pub mod offsets;
 
@@ -48,6 +49,9 @@ pub const OFFICE: Limits = Limits {
     capacity: OFFICE_CAPACITY,
     lines: OFFICE_LINES,
 };
+
+// The words of the rows of the longest book.
+pub const ROWS: usize = TERM_WORDS * OFFICE_TERMS;
 
 // Notes that symbol `s` has `count` arguments, and says whether no other count was noted before. (Where one was, what was
 // noted last stands, and the table is of no use any more.)

@@ -10,7 +10,7 @@ use steps::Stepped;
 pub fn step(area: &mut [u8], fixes: bool, a: u32, b: u32) -> Stepped
     ensures { λ s. ⌜ Called (callStep office fixes (now (area .entry)) a b) fixes s (now (area .exit)) ⌝ }
 {
-    let mut rows = [0u32; layout::TERM_WORDS * layout::OFFICE_TERMS];
+    let mut rows = [0u32; layout::ROWS];
     let mut bindings = [0u32; layout::OFFICE_TERMS];
     let mut lines = [0u32; layout::OFFICE_LINES];
     let mut entries = [0u32; TABLE_WORDS];

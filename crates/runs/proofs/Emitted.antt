@@ -40,3 +40,14 @@ module _ (new out : List ℕ) where
           → Writes (guard t (refuse 1 13 area out) (accept (length new ∷ []) area (over new out))) refusal written out′
       go true w = w
       go false w = w
+
+-- A call that tests an area and emits bytes, by the test.
+module _ (new area out : List ℕ) where
+  pub tested-seven : {t : Bool} → t ≡ false → Writes (guard t (refuse 1 7 area out) (emit new area out)) 7 0 out
+  unfolding guard refuse
+  tested-seven e = rw e (refl, (refl, refl))
+
+  pub tested-written : {t : Bool} → t ≡ true → {refusal written : ℕ} {out′ : List ℕ} → Writes (emit new [] out) refusal written out′
+      → Writes (guard t (refuse 1 7 area out) (emit new area out)) refusal written out′
+  unfolding guard
+  tested-written e w = rw e (emit-anywhere new out area w)

@@ -74,7 +74,7 @@ fn open_book(input: &[u8], at: usize, size: usize, area: &mut [u8]) -> Begun
         return Begun::Refused(1);
     }
     let end = at + size;
-    let refusal = fit::fit_open(CAPACITY, &input[at..end], area);
+    let refusal = opening::open(CAPACITY, &input[at..end], area);
     if refusal != 0 {
         return Begun::Refused(refusal);
     }
@@ -86,12 +86,15 @@ fn add(area: &mut [u8], l: u32, r: u32, next: usize) -> Stepped
     ensures answer { λ s. ⌜ s ≡ addedBy (callAdd office (now (area .entry)) l r) next ⌝ }
     ensures area { λ s. ⌜ now (area .exit) ≡ callAdd office (now (area .entry)) l r .area ⌝ }
 {
-    let mut entry: u32 = 0;
-    let refusal = fit::fit_add(area, l, r, &mut entry);
+    let s = office::step(area, false, l, r);
+    let refusal = s.refusal;
     if refusal != 0 {
         return Stepped::Refused { refusal, next };
     }
-    Stepped::Added { entry, next }
+    Stepped::Added {
+        entry: s.first,
+        next,
+    }
 }
 
 // Fixes the choice (`v`, `t`).
@@ -99,15 +102,14 @@ fn bind(area: &mut [u8], v: u32, t: u32, next: usize) -> Stepped
     ensures answer { λ s. ⌜ s ≡ boundBy (callBind office (now (area .entry)) v t) next ⌝ }
     ensures area { λ s. ⌜ now (area .exit) ≡ callBind office (now (area .entry)) v t .area ⌝ }
 {
-    let mut turned: u32 = 0;
-    let mut appended: u32 = 0;
-    let refusal = fit::fit_bind(area, v, t, &mut turned, &mut appended);
+    let s = office::step(area, true, v, t);
+    let refusal = s.refusal;
     if refusal != 0 {
         return Stepped::Refused { refusal, next };
     }
     Stepped::Bound {
-        turned,
-        appended,
+        turned: s.first,
+        appended: s.second,
         next,
     }
 }
@@ -118,7 +120,7 @@ fn report(area: &[u8], out: &mut [u8], next: usize) -> Stepped
     ensures output { λ s. ⌜ now (out .exit) ≡ callReport office (now (area .entry)) (now (out .entry)) .output ⌝ }
 {
     let mut length: u32 = 0;
-    let refusal = fit::fit_report(area, out, &mut length);
+    let refusal = reporting::report(area, out, &mut length);
     if refusal != 0 {
         return Stepped::Refused { refusal, next };
     }

@@ -1,13 +1,11 @@
 -- `fit::fit_add` meets its contract: a line is added by the step of the office. Assumes nothing.
 use borrow.Author.Needs.{needs}
-use Rattle.calls.specs.Called.{callStep}
-use Rattle.stepping.specs.Step.{numbersOf}
+use Rattle.calls.proofs.Outcomes.{line-added}
 use Rattle.fit.proofs.fit_add.Statement.{statement}
 use Rattle.fit.proofs.fit_add.Tie as tie
 
 returns : tie.Need-returns
-unfolding callStep numbersOf
-returns c = let s = c .before .before .step .ensures in (s .refusal, (s .numbers, s .bytes))
+returns c = line-added _ _ _ _ (c .before .before .step .ensures)
 
 pub fit-add-spec : {M : Type 1} → statement M
 fit-add-spec = tie.close (tie.spec (λ c κs. search needs) (λ c. search needs) returns)

@@ -1,13 +1,11 @@
 -- `fit::fit_bind` meets its contract: a choice is fixed by the step of the office. Assumes nothing.
 use borrow.Author.Needs.{needs}
-use Rattle.calls.specs.Called.{callStep}
-use Rattle.stepping.specs.Step.{numbersOf}
+use Rattle.calls.proofs.Outcomes.{choice-fixed}
 use Rattle.fit.proofs.fit_bind.Statement.{statement}
 use Rattle.fit.proofs.fit_bind.Tie as tie
 
 returns : tie.Need-returns
-unfolding callStep numbersOf
-returns c = let s = c .before .before .step .ensures in (s .refusal, (s .numbers, s .bytes))
+returns c = choice-fixed _ _ _ _ (c .before .before .step .ensures)
 
 pub fit-bind-spec : {M : Type 1} → statement M
 fit-bind-spec = tie.close (tie.spec (λ c κs. search needs) (λ c. search needs) returns)

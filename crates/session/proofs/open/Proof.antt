@@ -2,7 +2,6 @@
 -- nothing.
 use mathlib.Core.Path.{refl}
 use borrow.Author.Needs.{needs}
-use denote.Ref.{now}
 use Rattle.text.proofs.Numbers.{number-ahead}
 use Rattle.session.specs.Steps.{openBook, notBegun}
 use Rattle.session.proofs.Opening.{too-long, opens-by}

@@ -13,17 +13,17 @@ returns c = runs-past _ _ _ _ (c .if1 .taken)
 add-end : tie.Need-add-end
 add-end c = search needs
 
-sub-fit-open : tie.Need-sub-fit-open
-sub-fit-open c = search needs
+sub-open : tie.Need-sub-open
+sub-open c = search needs
 
-part-fit-open-start : tie.Need-part-fit-open-start
-part-fit-open-start c = search needs
+part-open-start : tie.Need-part-open-start
+part-open-start c = search needs
 
-part-fit-open-end : tie.Need-part-fit-open-end
-part-fit-open-end c = search needs
+part-open-end : tie.Need-part-open-end
+part-open-end c = search needs
 
-fit-open-requires : tie.Need-fit-open-requires
-fit-open-requires c κs = search needs
+open-requires : tie.Need-open-requires
+open-requires c κs = search needs
 
 same-length : tie.Need-same-length
 same-length c = search needs
@@ -32,7 +32,7 @@ returns-2 : tie.Need-returns-2
 returns-2 c =
     let opened = c .before .before .before in
     let fits = opened .before .before .before in
-    book-refused _ _ _ _ (fits .if1 .left) _ _ (opened .fit-open .ensures) (c .if2 .taken)
+    book-refused _ _ _ _ (fits .if1 .left) _ _ (opened .open .ensures) (c .if2 .taken)
 
 same-length-2 : tie.Need-same-length-2
 same-length-2 c = search needs
@@ -41,7 +41,7 @@ returns-3 : tie.Need-returns-3
 returns-3 c =
     let opened = c .before .before .before in
     let fits = opened .before .before .before in
-    book-opened _ _ _ _ (fits .if1 .left) _ _ (opened .fit-open .ensures) (c .if2 .left)
+    book-opened _ _ _ _ (fits .if1 .left) _ _ (opened .open .ensures) (c .if2 .left)
 
 pub open-book-spec : {M : Type 1} → statement M
 open-book-spec =
@@ -50,10 +50,10 @@ open-book-spec =
     sub-if1
     returns
     add-end
-    sub-fit-open
-    part-fit-open-start
-    part-fit-open-end
-    fit-open-requires
+    sub-open
+    part-open-start
+    part-open-end
+    open-requires
     same-length
     returns-2
     same-length-2

@@ -4,20 +4,20 @@ use Rattle.session.proofs.Stepping.{report-refused, report-accepted}
 use Rattle.session.proofs.report.Statement.{statement}
 use Rattle.session.proofs.report.Tie as tie
 
-fit-report-requires : tie.Need-fit-report-requires
-fit-report-requires c κs = search needs
+report-requires : tie.Need-report-requires
+report-requires c κs = search needs
 
 same-length : tie.Need-same-length
 same-length c = search needs
 
 returns : tie.Need-returns
-returns c = let called = c .before .before .before .fit-report in (report-refused _ _ _ (called .ensures .0) (c .if1 .taken), called .ensures .1 .1)
+returns c = let called = c .before .before .before .report in (report-refused _ _ _ (called .ensures .0) (c .if1 .taken), called .ensures .1 .1)
 
 same-length-2 : tie.Need-same-length-2
 same-length-2 c = search needs
 
 returns-2 : tie.Need-returns-2
-returns-2 c = let called = c .before .before .before .fit-report in (report-accepted _ _ _ (called .ensures .0) _ (called .ensures .1 .0) (c .if1 .left), called .ensures .1 .1)
+returns-2 c = let called = c .before .before .before .report in (report-accepted _ _ _ (called .ensures .0) _ (called .ensures .1 .0) (c .if1 .left), called .ensures .1 .1)
 
 pub report-spec : {M : Type 1} → statement M
-report-spec = tie.close (tie.spec fit-report-requires same-length returns same-length-2 returns-2)
+report-spec = tie.close (tie.spec report-requires same-length returns same-length-2 returns-2)

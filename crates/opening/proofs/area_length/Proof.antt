@@ -1,9 +1,9 @@
--- `copying::area_length` meets its contract: the needed length, 0 for a capacity out of range. Assumes nothing.
+-- `opening::area_length` meets its contract: the needed length, 0 for a capacity out of range. Assumes nothing.
 use mathlib.Core.Path.{sym, _∙_}
 use borrow.Author.Needs.{needs}
-use Rattle.copying.proofs.OpenCases.{in-range, too-low, too-high, length-of, length-none}
-use Rattle.copying.proofs.area_length.Statement.{statement}
-use Rattle.copying.proofs.area_length.Tie as tie
+use Rattle.opening.proofs.OpenCases.{in-range, too-low, too-high, length-of, length-none}
+use Rattle.opening.proofs.area_length.Statement.{statement}
+use Rattle.opening.proofs.area_length.Tie as tie
 
 returns : tie.Need-returns
 returns c = sym (length-none (c .before .args .capacity) (too-low (c .before .args .capacity) (c .if1 .taken)))

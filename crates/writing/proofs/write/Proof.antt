@@ -1,4 +1,4 @@
--- `views::write` meets its contract. Where the area is sound, its rows are those of its book, and that book is written. Assumes
+-- `writing::write` meets its contract. Where the area is sound, its rows are those of its book, and that book is written. Assumes
 -- nothing.
 use mathlib.Core.Path.{sym, _∙_}
 use native.Mathlib.Omega.{arith}
@@ -8,9 +8,9 @@ use Rattle.model.specs.Limits.{office}
 use Rattle.theory.proofs.Lists.Laws.{true-T}
 use Rattle.state.proofs.Uses.{sound-header}
 use Rattle.copying.proofs.BookHeld.{held-encodable, held-few}
-use Rattle.views.proofs.Written.{book-seven, read-held, written-book}
-use Rattle.views.proofs.write.Statement.{statement}
-use Rattle.views.proofs.write.Tie as tie
+use Rattle.writing.proofs.Written.{book-seven, read-held, written-book}
+use Rattle.writing.proofs.write.Statement.{statement}
+use Rattle.writing.proofs.write.Tie as tie
 
 returns : tie.Need-returns
 returns c = book-seven _ _ (sym (c .before .before .before .before .before .read .ensures .0) ∙ not-true _ (c .if1 .taken))

@@ -1,4 +1,4 @@
--- `copying::open` meets its contract: each return is a case of opening (proofs/OpenCases.antt). Assumes nothing.
+-- `opening::open` meets its contract: each return is a case of opening (proofs/OpenCases.antt). Assumes nothing.
 use mathlib.Core.Path.{_≡_, sym, ap, ap₂, subst, _∙_}
 use mathlib.Core.Bool.{true}
 use Prim.Native.Nat.{_*_, _<_, _≤_}
@@ -12,9 +12,9 @@ use Rattle.model.specs.Call.{refuse, accept, over}
 use Rattle.model.specs.BookBytes.{parseBook}
 use Rattle.decoding.specs.Rows.{bookRows, decodedBook}
 use Rattle.store.specs.Opened.{openedWords}
-use Rattle.copying.proofs.OpenCases.{inRange, length-of, none-out-of-range, some-in-range, open-four, open-seven, open-refused, open-accepted}
-use Rattle.copying.proofs.open.Statement.{statement}
-use Rattle.copying.proofs.open.Tie as tie
+use Rattle.opening.proofs.OpenCases.{inRange, length-of, none-out-of-range, some-in-range, open-four, open-seven, open-refused, open-accepted}
+use Rattle.opening.proofs.open.Statement.{statement}
+use Rattle.opening.proofs.open.Tie as tie
 
 -- past the first test the capacity lies in its range, and the length asked for is the needed one
 ranged : (e : tie.Else1) → inRange (e .before .before .before .before .args .capacity) ≡ true

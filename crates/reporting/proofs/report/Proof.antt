@@ -1,4 +1,4 @@
--- `views::report` meets its contract. Where the area is sound, what was read of it tells its state, and that state is reported.
+-- `reporting::report` meets its contract. Where the area is sound, what was read of it tells its state, and that state is reported.
 -- Assumes nothing.
 use mathlib.Core.Path.{_≡_, sym, _∙_}
 use mathlib.Core.Bool.{true}
@@ -14,9 +14,9 @@ use Rattle.model.specs.Area.{entryRowWords, sound, stateOf}
 use Rattle.theory.proofs.Lists.Laws.{true-T}
 use Rattle.state.proofs.Uses.{sound-header, read-entries}
 use Rattle.loaded.specs.Held.{Held}
-use Rattle.views.proofs.Written.{report-seven, cut-fits, lines-fit, few-lines, few-entries, read-told, written-report}
-use Rattle.views.proofs.report.Statement.{statement}
-use Rattle.views.proofs.report.Tie as tie
+use Rattle.reporting.proofs.Reported.{report-seven, cut-fits, lines-fit, few-lines, few-entries, read-told, written-report}
+use Rattle.reporting.proofs.report.Statement.{statement}
+use Rattle.reporting.proofs.report.Tie as tie
 
 -- past the test the area is sound, and its parts are loaded
 is-sound : (e : tie.Else1) → sound office (now (e .before .before .before .before .before .before .before .before .before .before .before .before .args .area)) ≡ true

@@ -1,49 +1,29 @@
--- Writing the book and the report of an area: what was read of it holds both, and what is emitted of them is the outcome of the
--- call. Assumes nothing.
-use mathlib.Core.Path.{_≡_, refl, _∙_}
+-- Reporting an area: what was read of it tells its state, and what is emitted of it is the outcome of the call. Assumes nothing.
+use mathlib.Core.Path.{_≡_, refl}
 use mathlib.Core.List.{List, []}
-use mathlib.Core.Bool.{Bool, true, false}
+use mathlib.Core.Bool.{true, false}
 use Prim.Native.Nat.{ℕ, _*_, _≤_}
 use native.Mathlib.Omega.{arith}
 use lib.ListN.{length, take, length-take}
 use Rattle.model.specs.Limits.{office}
 use Rattle.model.specs.Area.{entryRowWords, word, sound, stateOf}
-use Rattle.model.specs.BookBytes.{bookBytes}
 use Rattle.model.specs.Report.{reportBytes}
-use Rattle.model.specs.Call.{refuse, guard, emit, callReport, callWrite}
-use Rattle.layout.specs.Rows.{Loaded, bookOf, loadedState}
+use Rattle.model.specs.Call.{emit, callReport}
+use Rattle.layout.specs.Rows.{Loaded, loadedState}
 use Rattle.layout.proofs.Rows.{length-tableOf}
 use Rattle.runs.specs.Emits.{Writes}
-use Rattle.runs.proofs.Emitted.{emit-anywhere}
-use Rattle.decoding.specs.Rows.{bookRows}
+use Rattle.runs.proofs.Emitted.{tested-seven, tested-written}
 use Rattle.state.specs.Loading.{headerOf}
 use Rattle.state.specs.Ready.{Ready}
 use Rattle.reading.proofs.Tested.{table-known}
-use Rattle.state.proofs.Uses.{read-facts, read-rows, read-terms, read-entries}
+use Rattle.state.proofs.Uses.{read-facts, read-entries}
 use Rattle.report.specs.Shown.{Told}
 use Rattle.loaded.specs.Held.{Held}
-use Rattle.copying.proofs.BookHeld.{BookHeld, held-book}
-
--- A call that tests an area and emits bytes, by the test.
-module _ (new area out : List ℕ) where
-  tested-seven : {t : Bool} → t ≡ false → Writes (guard t (refuse 1 7 area out) (emit new area out)) 7 0 out
-  unfolding guard refuse
-  tested-seven e = rw e (refl, (refl, refl))
-
-  tested-written : {t : Bool} → t ≡ true → {refusal written : ℕ} {out′ : List ℕ} → Writes (emit new [] out) refusal written out′
-      → Writes (guard t (refuse 1 7 area out) (emit new area out)) refusal written out′
-  unfolding guard
-  tested-written e w = rw e (emit-anywhere new out area w)
 
 -- An area that is not sound.
-module _ (area out : List ℕ) (e : sound office area ≡ false) where
-  pub book-seven : Writes (callWrite office area out) 7 0 out
-  unfolding callWrite
-  book-seven = tested-seven _ area out e
-
-  pub report-seven : Writes (callReport office area out) 7 0 out
-  unfolding callReport
-  report-seven = tested-seven _ area out e
+pub report-seven : (area out : List ℕ) → sound office area ≡ false → Writes (callReport office area out) 7 0 out
+unfolding callReport
+report-seven area out e = tested-seven _ area out e
 
 -- what is loaded of a state can be reported
 ready-told : {w : Loaded} {list roots names : List ℕ} → Ready office w list roots names
@@ -65,24 +45,6 @@ ready-told {w} r =
 
 -- An area that is, and what was read of it.
 module _ {area rows lines entries names : List ℕ} (h : Held area rows lines entries names) where
-  -- the rows hold its book
-  pub read-held : (terms : ℕ) → terms ≡ word area 1 → BookHeld rows terms (stateOf area office .book) (stateOf area office .bound)
-  unfolding bookRows
-  read-held terms as-many =
-      let r = h .read in
-      record {
-        formed = read-facts r .formed;
-        few = read-facts r .few-terms;
-        as-many = as-many ∙ read-terms r;
-        written = read-rows r;
-      }
-
-  -- and what is emitted of them is written
-  pub written-book : (terms : ℕ) → terms ≡ word area 1 → sound office area ≡ true → (out : List ℕ) {refusal written : ℕ} {out′ : List ℕ}
-      → Writes (emit (bookBytes (bookOf rows terms)) [] out) refusal written out′ → Writes (callWrite office area out) refusal written out′
-  unfolding callWrite
-  written-book terms as-many e out w = tested-written _ area out e (rw (← held-book (read-held terms as-many)) w)
-
   -- the rows of its capacity and its lines lie in their slices, and its lines and entries are few
   pub cut-fits : (n : ℕ) → n ≡ word area 0 → entryRowWords * n ≤ length entries
   unfolding headerOf

@@ -1,4 +1,4 @@
--- `views::entry` meets its contract: each return is a case of reading an entry (proofs/EntryCases.antt). Assumes nothing.
+-- `viewing::entry` meets its contract: each return is a case of reading an entry (proofs/EntryCases.antt). Assumes nothing.
 use mathlib.Core.Path.{_≡_, sym, _∙_}
 use mathlib.Core.Bool.{true}
 use Prim.Native.Nat.{_<_}
@@ -11,9 +11,9 @@ use Rattle.model.specs.Area.{word, sound}
 use Rattle.theory.proofs.Lists.Laws.{true-T}
 use Rattle.state.proofs.Uses.{sound-header, read-entries, entry-within, entry-row}
 use Rattle.loaded.specs.Held.{Held}
-use Rattle.views.proofs.EntryCases.{entry-seven, entry-eight, entry-there}
-use Rattle.views.proofs.entry.Statement.{statement}
-use Rattle.views.proofs.entry.Tie as tie
+use Rattle.viewing.proofs.EntryCases.{entry-seven, entry-eight, entry-there}
+use Rattle.viewing.proofs.entry.Statement.{statement}
+use Rattle.viewing.proofs.entry.Tie as tie
 
 -- past the first test the area is sound, and its rows are loaded
 is-sound : (e : tie.Else1) → sound office (now (e .before .before .before .before .before .before .before .before .before .before .before .before .args .area)) ≡ true

@@ -1,4 +1,4 @@
--- What opening and copying a book answer, case by case, from the outcome of the decoder. Assumes nothing.
+-- What opening a book answers, case by case, from the outcome of the decoder. Assumes nothing.
 use mathlib.Core.Path.{_≡_, refl, ap, _∙_}
 use mathlib.Core.List.{List, []}
 use mathlib.Core.Bool.{Bool, true, false, _&&_}
@@ -9,15 +9,14 @@ use lib.Dec.{leb}
 use borrow.Author.Tests.{le-leb, lt-leb}
 use Rattle.model.specs.Limits.{office}
 use Rattle.model.specs.Lists.{concatMap}
-use Rattle.model.specs.Term.{Book}
-use Rattle.model.specs.BookBytes.{Parsed, parsed, unparsed, parseBook, bookBytes}
+use Rattle.model.specs.BookBytes.{parseBook}
 use Rattle.model.specs.Area.{wordSize, termWords, toBytes, areaLength, areaBytes}
-use Rattle.model.specs.Call.{refuse, accept, guard, over, emit, openParsed, callOpen, copyParsed, callCopy}
+use Rattle.model.specs.Call.{refuse, accept, guard, over, openParsed, callOpen}
 use Rattle.theory.proofs.Book.Round.{parsed-formed}
-use Rattle.theory.proofs.Book.Opening.{Positive, book-positive}
 use Rattle.decoding.specs.Rows.{bookRows, refusalOf, decodedBook}
+use Rattle.decoding.proofs.Outcome.{decoded, not-decoded}
 use Rattle.store.specs.Opened.{openedWords}
-use Rattle.copying.specs.Offered.{neededLength}
+use Rattle.opening.specs.Offered.{neededLength}
 use Rattle.store.proofs.JustOpened.{opened-words}
 
 -- THE CAPACITY. Whether it lies in its range, by the outcome of two tests.
@@ -62,25 +61,6 @@ some-in-range capacity h = go (inRange capacity) refl
     go true e = e
     go false e = absurd (h (length-none capacity e))
 
--- THE DECODER'S OUTCOME. Without a refusal it has a book.
-pub decoded : (bytes : List ℕ) → refusalOf (parseBook office bytes) ≡ 0
-    → (rest : List ℕ) × (parseBook office bytes ≡ parsed (decodedBook (parseBook office bytes)) rest)
-unfolding refusalOf decodedBook
-decoded bytes h = go (parseBook office bytes) (book-positive office bytes) h
-  where
-    go : (p : Parsed Book) → Positive p → refusalOf p ≡ 0 → (rest : List ℕ) × (p ≡ parsed (decodedBook p) rest)
-    go (parsed b rest) h g = (rest, refl)
-    go (unparsed n) h g = absurd (rw g at h)
-
--- with a refusal it is that refusal
-pub not-decoded : (bytes : List ℕ) → (refusalOf (parseBook office bytes) ≡ 0 → ⊥) → parseBook office bytes ≡ unparsed (refusalOf (parseBook office bytes))
-unfolding refusalOf
-not-decoded bytes h = go (parseBook office bytes) h
-  where
-    go : (p : Parsed Book) → (refusalOf p ≡ 0 → ⊥) → p ≡ unparsed (refusalOf p)
-    go (parsed b rest) h = absurd (h refl)
-    go (unparsed n) h = refl
-
 -- OPENING.
 module _ (capacity : ℕ) (book area : List ℕ) where
   pub open-four : inRange capacity ≡ false → callOpen office capacity book area ≡ refuse 0 4 area []
@@ -111,13 +91,3 @@ module _ (capacity : ℕ) (book area : List ℕ) where
       open-parsed h g ∙ ap (openParsed office capacity area) (d .1)
       ∙ ap (λ words. accept [] (over (concatMap (toBytes wordSize) words) area) [])
       (opened-words office b capacity (parsed-formed office book b (d .0) (d .1) .1))
-
--- COPYING.
-module _ (book out : List ℕ) where
-  pub copy-refused : (refusalOf (parseBook office book) ≡ 0 → ⊥) → callCopy office book out ≡ refuse 1 (refusalOf (parseBook office book)) [] out
-  unfolding callCopy copyParsed
-  copy-refused n = ap (copyParsed out) (not-decoded book n)
-
-  pub copy-parsed : refusalOf (parseBook office book) ≡ 0 → callCopy office book out ≡ emit (bookBytes (decodedBook (parseBook office book))) [] out
-  unfolding callCopy copyParsed
-  copy-parsed z = ap (copyParsed out) (decoded book z .1)

@@ -1,7 +1,7 @@
 //! Runs the session program on random sessions, valid and damaged, and compares every line that it prints with the second
 //! implementation. Every session is made from its own seed, which is printed where the two differ. The run prints how often
-//! each kind of session, refusal and end occurred, and fails where one did not. With a file name it writes the session that takes
-//! longest there, and runs nothing.
+//! each kind of session, refusal and end occurred, and fails where one did not. With `slow` it times the sessions that take longest of
+//! those tried, and compares nothing.
 
 mod bases;
 mod reference;
@@ -11,7 +11,7 @@ use std::collections::BTreeMap;
 use std::io::{Read, Write};
 use std::process::{Command, Stdio};
 use std::thread;
-use std::time::Duration;
+use std::time::{Duration, Instant};
 
 const SESSIONS: u64 = 20_000;
 const FIRST_SEED: u64 = 0x5E55_0000_0000_0000;
@@ -220,6 +220,10 @@ fn kinds() -> Vec<String> {
         "all steps taken",
         "a report after every step",
         "a line after a refused one",
+        "a report after a report",
+        "a report, a refused step and a report",
+        "a report, an accepted step and another report",
+        "a report, an accepted step and the same report",
     ]
     .map(String::from)
     .to_vec();
@@ -263,7 +267,18 @@ impl Census {
         }
         // The line behind the opening's belongs to the first step.
         let mut refused = false;
-        for (step, line) in session.steps.iter().zip(session.printed.lines().skip(1)) {
+        let taken: Vec<(u32, &str)> = session.steps.iter().copied().zip(session.printed.lines().skip(1)).collect();
+        for turns in taken.windows(3) {
+            if let [(3, before), (between, answer), (3, after)] = *turns {
+                self.note(match (between, answer.contains(' ')) {
+                    (3, _) => "a report after a report",
+                    (_, false) => "a report, a refused step and a report",
+                    _ if before == after => "a report, an accepted step and the same report",
+                    _ => "a report, an accepted step and another report",
+                });
+            }
+        }
+        for (step, line) in &taken {
             if refused && *step == 1 && line.starts_with("0 ") {
                 self.note("a line after a refused one");
             }
@@ -308,18 +323,51 @@ fn worked() -> Vec<(Vec<u8>, &'static str)> {
     ]
 }
 
-/// The session that takes longest of those tried: each term is over eight times the one before it, and the line of the last two fills
-/// the table but for an entry, which a second line takes; then lines to their number, and reports up to the last byte.
-fn slowest() -> Vec<u8> {
-    let terms: Vec<Term> = (0..1_024).map(|own| if own == 0 { Term::Variable } else { over(4_095, &[own - 1; 8]) }).collect();
+/// The sessions that take longest of those tried, each filled up to the last byte with the same steps. Behind two variables each term
+/// is over eight times the one before it; the line of the last two fills the table but for two entries, which lines of the variables
+/// take. With each the length of its first part, which ends with a step.
+fn slow() -> Vec<(&'static str, Vec<u8>, usize)> {
+    let term = |own: u32| if own < 2 { Term::Variable } else { over(4_095, &[if own == 2 { 0 } else { own - 1 }; 8]) };
+    let terms: Vec<Term> = (0..1_024).map(term).collect();
     let mut steps = Vec::new();
-    push_step(&mut steps, Call::Add { l: 0, r: 0 });
-    for _ in 1..256 {
-        push_step(&mut steps, Call::Add { l: 1_023, r: 1_022 });
+    for (l, r) in [(1, 100), (0, 0)].into_iter().chain([(1_023, 1_022); 254]) {
+        push_step(&mut steps, Call::Add { l, r });
     }
-    let mut input = of(&encode(&terms), &steps);
-    input.resize(LONGEST, 3);
-    input
+    let start = of(&encode(&terms), &steps);
+    let (line, choice) = (Call::Add { l: 0, r: 1 }, Call::Bind { v: 1, t: 90 });
+    let units = [
+        ("reports", vec![Call::Report]),
+        ("lines refused with 12", vec![line]),
+        ("choices refused with 11", vec![choice]),
+        ("a report and a choice refused with 11", vec![Call::Report, choice]),
+    ];
+    let filled = |(name, calls): (&'static str, Vec<Call>)| {
+        let mut unit = Vec::new();
+        calls.iter().for_each(|&call| push_step(&mut unit, call));
+        let input = [start.clone(), unit.repeat((LONGEST - start.len()) / unit.len())].concat();
+        (name, input, start.len() + 50 * unit.len())
+    };
+    units.map(filled).to_vec()
+}
+
+/// The time of each slow session, the best of three runs, with nobody reading what it prints; its first part is compared before.
+fn time_slow() {
+    println!("| session | steps | seconds | bytes printed |");
+    println!("|---|---|---|---|");
+    for (name, input, part) in slow() {
+        let expected = session(&input[..part]).printed;
+        let output = printed(&input, usize::MAX, Duration::ZERO).expect("the program runs");
+        assert!(output.starts_with(&expected), "{name}: the program prints something else");
+        std::fs::write("target/tests/slow", &input).expect("the session is written");
+        let run = || {
+            let clock = Instant::now();
+            let status = Command::new("sh").args(["-c", &format!("{PROGRAM} <target/tests/slow >/dev/null")]).status();
+            assert!(status.is_ok_and(|status| status.success()), "{name}: the program fails");
+            clock.elapsed().as_secs_f64()
+        };
+        let best = (0..3).map(|_| run()).fold(f64::INFINITY, f64::min);
+        println!("| {name} | {} | {best:.2} | {} |", output.lines().count() - 1, output.len());
+    }
 }
 
 fn compare(name: &str, input: &[u8], expected: &str, piece: usize, pause: u64) -> bool {
@@ -375,9 +423,8 @@ fn random_sessions(first: u64, every: u64) -> (Census, Vec<bool>) {
 }
 
 fn main() {
-    if let Some(name) = std::env::args().nth(1) {
-        std::fs::write(&name, slowest()).expect("the file is written");
-        return;
+    if std::env::args().nth(1).is_some_and(|word| word == "slow") {
+        return time_slow();
     }
     let (mut passed, mut failed) = (0, 0);
     let mut test = |holds: bool| if holds { passed += 1 } else { failed += 1 };

@@ -1,19 +1,22 @@
 -- What a step answers and leaves at each return. Assumes nothing.
 use mathlib.Core.Path.{_≡_, refl, ap, sym, _∙_}
 use mathlib.Core.List.{List, [], _∷_}
-use mathlib.Core.Bool.{cond}
+use mathlib.Core.Bool.{Bool, true, false, cond}
 use Prim.Native.Nat.{ℕ}
 use lib.Dec.{eqb}
 use borrow.Author.Tests.{eq-eqb, ne-eqb}
 use Rattle.model.specs.Limits.{office}
-use Rattle.model.specs.Call.{Outcome, callAdd, callBind, callReport}
+use Rattle.model.specs.Call.{Outcome, callReport}
 use Rattle.theory.proofs.Theorems.{demand-1}
+use Rattle.steps.specs.declared.Stepped.{Stepped as Taken}
+use Rattle.stepping.specs.Step.{numbersOf}
+use Rattle.calls.specs.Called.{callStep}
 use Rattle.request.specs.declared.Request.{Request}
 use Rattle.request.specs.declared.Request.the-variants.{Line, Choice, Report}
 use Rattle.request.specs.Requests.{requestAt}
 use Rattle.session.specs.declared.Stepped.{Stepped}
 use Rattle.session.specs.declared.Stepped.the-variants.{Refused, Added, Bound, Reported}
-use Rattle.session.specs.Steps.{Step, still, perform, addedBy, boundBy, reportedBy, stepAt}
+use Rattle.session.specs.Steps.{Step, still, perform, addedBy, boundBy, changedBy, reportedBy, stepAt}
 
 -- CALLS. A refused call, and what an accepted one answers, whatever the answer is made of.
 refused-by : (n next : ℕ) (accepting : Stepped) → (n ≡ 0 → ⊥) → Refused n next ≡ cond (eqb n 0) accepting (Refused n next)
@@ -23,25 +26,26 @@ accepted-by : (n next : ℕ) (accepting : Stepped) → n ≡ 0 → accepting ≡
 accepted-by n next accepting h = rw (eq-eqb n 0 h)
 
 module _ (o : Outcome) (next r : ℕ) (e : r ≡ o .refusal) where
-  pub add-refused : (r ≡ 0 → ⊥) → Refused r next ≡ addedBy o next
-  unfolding addedBy
-  add-refused h = rw e (refused-by (o .refusal) next _ (rw e at h))
-
-  pub bind-refused : (r ≡ 0 → ⊥) → Refused r next ≡ boundBy o next
-  unfolding boundBy
-  bind-refused h = rw e (refused-by (o .refusal) next _ (rw e at h))
+  pub change-refused : (fixes : Bool) → (r ≡ 0 → ⊥) → Refused r next ≡ changedBy fixes o next
+  unfolding changedBy addedBy boundBy
+  change-refused true h = rw e (refused-by (o .refusal) next _ (rw e at h))
+  change-refused false h = rw e (refused-by (o .refusal) next _ (rw e at h))
 
   pub report-refused : (r ≡ 0 → ⊥) → Refused r next ≡ reportedBy o next
   unfolding reportedBy
   report-refused h = rw e (refused-by (o .refusal) next _ (rw e at h))
 
-  pub add-accepted : (i : ℕ) → i ∷ [] ≡ o .numbers → r ≡ 0 → Added i next ≡ addedBy o next
-  unfolding addedBy
-  add-accepted i q h = rw (← q) (accepted-by (o .refusal) next (Added i next) (sym e ∙ h))
+  -- a step's first two numbers, of which a line has the first
+  module _ (fixes : Bool) (s : Taken) (q : numbersOf fixes s ≡ o .numbers) (h : r ≡ 0) where
+    pub change-bound : fixes ≡ true → Bound (s .first) (s .second) next ≡ changedBy fixes o next
+    unfolding changedBy boundBy numbersOf
+    change-bound t = let q′ : s .first ∷ s .second ∷ [] ≡ o .numbers = rw t at q in
+        rw (t, ← q′) (accepted-by (o .refusal) next (Bound (s .first) (s .second) next) (sym e ∙ h))
 
-  pub bind-accepted : (m n : ℕ) → m ∷ n ∷ [] ≡ o .numbers → r ≡ 0 → Bound m n next ≡ boundBy o next
-  unfolding boundBy
-  bind-accepted m n q h = rw (← q) (accepted-by (o .refusal) next (Bound m n next) (sym e ∙ h))
+    pub change-added : fixes ≡ false → Added (s .first) next ≡ changedBy fixes o next
+    unfolding changedBy addedBy numbersOf
+    change-added t = let q′ : s .first ∷ [] ≡ o .numbers = rw t at q in
+        rw (t, ← q′) (accepted-by (o .refusal) next (Added (s .first) next) (sym e ∙ h))
 
   pub report-accepted : (n : ℕ) → n ∷ [] ≡ o .numbers → r ≡ 0 → Reported n next ≡ reportedBy o next
   unfolding reportedBy
@@ -64,13 +68,15 @@ module _ (input area out : List ℕ) (at : ℕ) {q : Request} (e : q ≡ request
   stays h answer s = rw (by-request h ∙ s) (refl, (refl, refl))
 
   pub adds : {l r next : ℕ} → q ≡ Line l r next → {s : Stepped} {area′ : List ℕ}
-      → (s ≡ addedBy (callAdd office area l r) next) × (area′ ≡ callAdd office area l r .area) → Takes s area′ out (stepAt input area out at)
-  unfolding perform
+      → (s ≡ changedBy false (callStep office false area l r) next) × (area′ ≡ callStep office false area l r .area)
+      → Takes s area′ out (stepAt input area out at)
+  unfolding perform changedBy callStep
   adds h g = rw (by-request h) (g .0, (g .1, refl))
 
   pub binds : {v t next : ℕ} → q ≡ Choice v t next → {s : Stepped} {area′ : List ℕ}
-      → (s ≡ boundBy (callBind office area v t) next) × (area′ ≡ callBind office area v t .area) → Takes s area′ out (stepAt input area out at)
-  unfolding perform
+      → (s ≡ changedBy true (callStep office true area v t) next) × (area′ ≡ callStep office true area v t .area)
+      → Takes s area′ out (stepAt input area out at)
+  unfolding perform changedBy callStep
   binds h g = rw (by-request h) (g .0, (g .1, refl))
 
   pub reports : {next : ℕ} → q ≡ Report next → {s : Stepped} {out′ : List ℕ}

@@ -1,7 +1,7 @@
 -- A session on bytes: opening it, and one step of it, by the calls on an area (document 01, "Sessions"). The input is read at
 -- positions; a step gets the area and the output as the last one left them. Assumes nothing: these are definitions.
 use mathlib.Core.List.{List}
-use mathlib.Core.Bool.{cond}
+use mathlib.Core.Bool.{Bool, true, false, cond}
 use Prim.Native.Nat.{ℕ, _+_, _-_}
 use lib.ListN.{length, getD, take, drop}
 use lib.Dec.{eqb, leb}
@@ -62,6 +62,11 @@ addedBy o next = cond (eqb (o .refusal) 0) (Added (getD (o .numbers) 0 0) next) 
 
 unfoldable pub boundBy : Outcome → ℕ → Stepped
 boundBy o next = cond (eqb (o .refusal) 0) (Bound (getD (o .numbers) 0 0) (getD (o .numbers) 1 0) next) (Refused (o .refusal) next)
+
+-- a choice's, or a line's
+unfoldable pub changedBy : Bool → Outcome → ℕ → Stepped
+changedBy true o next = boundBy o next
+changedBy false o next = addedBy o next
 
 unfoldable pub reportedBy : Outcome → ℕ → Stepped
 reportedBy o next = cond (eqb (o .refusal) 0) (Reported (getD (o .numbers) 0 0) next) (Refused (o .refusal) next)

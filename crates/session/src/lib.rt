@@ -5,8 +5,9 @@ ghost use Prim.Native.Nat.{_≤_};
 ghost use lib.ListN.{length};
 ghost use Rattle.leb128.specs.declared.Decoded.the-variants.{Number};
 ghost use Rattle.model.specs.Limits.{office};
-ghost use Rattle.model.specs.Call.{callAdd, callBind, callReport};
-ghost use Rattle.session.specs.Steps.{openBook, start, addedBy, boundBy, reportedBy, stepAt};
+ghost use Rattle.model.specs.Call.{callReport};
+ghost use Rattle.calls.specs.Called.{callStep};
+ghost use Rattle.session.specs.Steps.{openBook, start, changedBy, reportedBy, stepAt};
 use request::Request;
 
 // The longest session in bytes, and the capacity of its area.
@@ -81,35 +82,25 @@ fn open_book(input: &[u8], at: usize, size: usize, area: &mut [u8]) -> Begun
     Begun::At(end)
 }
 
-// Adds the line (`l`, `r`).
-fn add(area: &mut [u8], l: u32, r: u32, next: usize) -> Stepped
-    ensures answer { λ s. ⌜ s ≡ addedBy (callAdd office (now (area .entry)) l r) next ⌝ }
-    ensures area { λ s. ⌜ now (area .exit) ≡ callAdd office (now (area .entry)) l r .area ⌝ }
+// Fixes the choice (`a`, `b`), or adds the line (`a`, `b`).
+fn change(area: &mut [u8], fixes: bool, a: u32, b: u32, next: usize) -> Stepped
+    ensures answer { λ s. ⌜ s ≡ changedBy fixes (callStep office fixes (now (area .entry)) a b) next ⌝ }
+    ensures area { λ s. ⌜ now (area .exit) ≡ callStep office fixes (now (area .entry)) a b .area ⌝ }
 {
-    let s = office::step(area, false, l, r);
+    let s = office::step(area, fixes, a, b);
     let refusal = s.refusal;
     if refusal != 0 {
         return Stepped::Refused { refusal, next };
+    }
+    if fixes {
+        return Stepped::Bound {
+            turned: s.first,
+            appended: s.second,
+            next,
+        };
     }
     Stepped::Added {
         entry: s.first,
-        next,
-    }
-}
-
-// Fixes the choice (`v`, `t`).
-fn bind(area: &mut [u8], v: u32, t: u32, next: usize) -> Stepped
-    ensures answer { λ s. ⌜ s ≡ boundBy (callBind office (now (area .entry)) v t) next ⌝ }
-    ensures area { λ s. ⌜ now (area .exit) ≡ callBind office (now (area .entry)) v t .area ⌝ }
-{
-    let s = office::step(area, true, v, t);
-    let refusal = s.refusal;
-    if refusal != 0 {
-        return Stepped::Refused { refusal, next };
-    }
-    Stepped::Bound {
-        turned: s.first,
-        appended: s.second,
         next,
     }
 }
@@ -136,8 +127,8 @@ pub fn step(input: &[u8], at: usize, area: &mut [u8], out: &mut [u8]) -> Stepped
     match request::request_at(input, at) {
         Request::Ended => Stepped::Ended,
         Request::Stopped(n) => Stepped::Stopped(n),
-        Request::Line(left, right, next) => add(area, left, right, next),
-        Request::Choice(variable, term, next) => bind(area, variable, term, next),
+        Request::Line(left, right, next) => change(area, false, left, right, next),
+        Request::Choice(variable, term, next) => change(area, true, variable, term, next),
         Request::Report(next) => report(area, out, next),
     }
 }

@@ -19,14 +19,14 @@ enum-known-n c = search needs
 enum-known-left : tie.Need-enum-known-left
 enum-known-left c = search needs
 
-add-requires : tie.Need-add-requires
-add-requires c κs = search needs
+change-requires : tie.Need-change-requires
+change-requires c κs = search needs
 
 enum-known-variable : tie.Need-enum-known-variable
 enum-known-variable c = search needs
 
-bind-requires : tie.Need-bind-requires
-bind-requires c κs = search needs
+change-requires-2 : tie.Need-change-requires-2
+change-requires-2 c κs = search needs
 
 enum-known-next : tie.Need-enum-known-next
 enum-known-next c = search needs
@@ -49,7 +49,7 @@ returns-3 : tie.Need-returns-3
 returns-3 c =
     let done = c .before .before in
     let known = done .before .before .before in
-    adds _ _ _ _ (known .before .before .request-at .ensures) (known .left .given .1) (done .add .ensures)
+    adds _ _ _ _ (known .before .before .request-at .ensures) (known .left .given .1) (done .change .ensures)
 
 same-length-2 : tie.Need-same-length-2
 same-length-2 c = search needs
@@ -58,7 +58,7 @@ returns-4 : tie.Need-returns-4
 returns-4 c =
     let done = c .before .before in
     let known = done .before .before .before in
-    binds _ _ _ _ (known .before .before .request-at .ensures) (known .variable .given .1) (done .bind .ensures)
+    binds _ _ _ _ (known .before .before .request-at .ensures) (known .variable .given .1) (done .change2 .ensures)
 
 same-length-3 : tie.Need-same-length-3
 same-length-3 c = search needs
@@ -80,9 +80,9 @@ step-spec =
     enum-told
     enum-known-n
     enum-known-left
-    add-requires
+    change-requires
     enum-known-variable
-    bind-requires
+    change-requires-2
     enum-known-next
     report-requires
     returns

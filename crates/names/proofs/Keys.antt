@@ -4,7 +4,7 @@ use mathlib.Core.List.{List, [], _∷_, map}
 use mathlib.Core.Bool.{Bool, true, false}
 use mathlib.Core.Logic.{_⊎_, inl, inr}
 use Prim.Native.Nat.{ℕ, suc, _+_, _*_, _-_, _/_, _%_, _≤_, _<_}
-use native.Mathlib.Nat.{mod-lt, div-lt-iff-lt-mul}
+use native.Mathlib.Nat.{mod-lt, div-lt-iff-lt-mul, mul-le-mul}
 use native.Mathlib.Numerals.{add-one}
 use native.Mathlib.Omega.{arith}
 use borrow.Author.Tests.{eq-eqb, ne-eqb}
@@ -22,17 +22,19 @@ use Rattle.values.proofs.Reading.{argumentsAt, node-arguments}
 use Rattle.names.specs.Keys.{keyOf, keyAt, mixed, hashFrom, Row, Earlier}
 
 -- the sum of a mix fits a word of eight bytes
-sum-fits : (low high c : ℕ) → low < 4294967296 → high < 4294967296 → c < 4294967296
-    → (low * 2654435843 + high < 18446744073709551616) × (low * 2654435843 + high + c < 18446744073709551616)
-sum-fits low high c l k m = (omega arith, omega arith)
+sum-fits : (product high c : ℕ) → product ≤ 4294967295 * 3728177666 → high < 4294967296 → c < 4294967296
+    → (product < 18446744073709551616) × (product + high < 18446744073709551616) × (product + high + c < 18446744073709551616)
+sum-fits product high c l k m = (omega arith, omega arith, omega arith)
 
 pub halves : (h : ℕ) → h < 18446744073709551616 → (h % 4294967296 < 4294967296) × (h / 4294967296 < 4294967296)
 halves h l = (mod-lt h (omega arith), div-lt-iff-lt-mul {k = 4294967296} {x = h} {y = 4294967296} (omega arith) .1 l)
 
-pub mix-fits : (h c : ℕ) → h < 18446744073709551616 → c < 4294967296
-    → (h % 4294967296 * 2654435843 + h / 4294967296 < 18446744073709551616)
-    × (h % 4294967296 * 2654435843 + h / 4294967296 + c < 18446744073709551616)
-mix-fits h c l k = sum-fits (h % 4294967296) (h / 4294967296) c (halves h l .0) (halves h l .1) k
+pub mix-fits : (h c : ℕ) → h < 18446744073709551616 → c < 4294967296 → let product = h % 4294967296 * (2654435843 + c % 1073741824) in
+    (product < 18446744073709551616) × (product + h / 4294967296 < 18446744073709551616) × (product + h / 4294967296 + c < 18446744073709551616)
+mix-fits h c l k =
+    let factor : 2654435843 + c % 1073741824 ≤ 3728177666 = omega (arith, mod-lt c {m = 1073741824} (omega arith)) in
+    let low : h % 4294967296 ≤ 4294967295 = omega (arith, halves h l .0) in
+    sum-fits (h % 4294967296 * (2654435843 + c % 1073741824)) (h / 4294967296) c (mul-le-mul low factor) (halves h l .1) k
 
 mixed-none : (c : ℕ) → mixed 0 c ≡ c
 unfolding mixed

@@ -18,7 +18,7 @@ keyAt rows classes t = keyOf (at classes) (nodeOf rows t)
 
 -- A number below 2 ^ 64 from such a number and one more below 2 ^ 32, and from several more.
 unfoldable pub mixed : ℕ → ℕ → ℕ
-mixed h c = h % 4294967296 * 2654435843 + h / 4294967296 + c
+mixed h c = h % 4294967296 * (2654435843 + c % 1073741824) + h / 4294967296 + c
 
 unfoldable pub hashFrom : ℕ → List ℕ → ℕ
 hashFrom h [] = h

@@ -14,13 +14,15 @@ ghost use Rattle.values.specs.Reading.{Listed};
 ghost use Rattle.names.specs.Keys.{mixed, hashFrom, keyAt, Row, Rows, Earlier};
 ghost use Rattle.names.specs.Classes.{Classable, classOf, Scratch, SameClasses, Seen, Counted, lowestSame};
 
-// The hash `h` with `c` in it: `h` is multiplied by 2654435843 modulo 2^32 * 2654435843 - 1, which is prime, and `c` is added.
+// The hash `h` with `c` in it. `c` is in the factor too, so that what it changes depends on the numbers before it: a hash that is
+// linear in them could be met by lists built for it.
 fn mix(h: u64, c: u32) -> u64
     ensures { λ r. ⌜ r ≡ mixed h c ⌝ }
 {
     let low = h % 4294967296;
     let high = h / 4294967296;
-    low * 2654435843 + high + c as u64
+    let factor = 2654435843 + (c as u64) % 1073741824;
+    low * factor + high + c as u64
 }
 
 // The hash of `symbol` and the classes of `args`.

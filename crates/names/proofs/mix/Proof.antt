@@ -7,14 +7,17 @@ use Rattle.names.proofs.Keys.{mix-fits}
 use Rattle.names.proofs.mix.Statement.{statement}
 use Rattle.names.proofs.mix.Tie as tie
 
+add-factor : tie.Need-add-factor
+add-factor c = search needs
+
 mul-result : tie.Need-mul-result
-mul-result c = search needs
+mul-result c = record { fits = mix-fits (c .args .h) (c .args .c) (omega arith) (omega arith) .0 }
 
 add-result : tie.Need-add-result
-add-result c = record { fits = mix-fits (c .args .h) (c .args .c) (omega arith) (omega arith) .0 }
+add-result c = record { fits = mix-fits (c .args .h) (c .args .c) (omega arith) (omega arith) .1 }
 
 add-result-2 : tie.Need-add-result-2
-add-result-2 c = record { fits = mix-fits (c .args .h) (c .args .c) (omega arith) (omega arith) .1 }
+add-result-2 c = record { fits = mix-fits (c .args .h) (c .args .c) (omega arith) (omega arith) .2 }
 
 returns : tie.Need-returns
 unfolding mixed
@@ -24,6 +27,7 @@ pub mix-spec : {M : Type 1} → statement M
 mix-spec =
     tie.close
     (tie.spec
+    add-factor
     mul-result
     add-result
     add-result-2

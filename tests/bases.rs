@@ -245,8 +245,9 @@ pub fn measured(random: &mut Random, count: u32, capacity: u32) -> Base {
     lined(&terms, leaves, capacity)
 }
 
-/// Lists of eight numbers that, added to the arguments of a term over eight constants, leave the 64 bits that the library hashes it to (crate
-/// names) as they are: a short basis of the lattice of all such lists, found by reducing it (Lenstra, Lenstra, Lovász).
+/// Lists of eight numbers that, added to the arguments of a term over eight constants, leave a hash as it is that takes each argument c to
+/// h * 2654435843 + c modulo 2^32 * 2654435843 - 1: a short basis of the lattice of all such lists, found by reducing it (Lenstra, Lenstra,
+/// Lovász). The library once hashed so (crate names).
 const SAME_HASH: [[i32; 8]; 8] = [
     [94, 55, -18, -29, -153, 42, -85, -3],
     [-58, -10, 132, 78, -109, 92, -28, 126],
@@ -258,7 +259,7 @@ const SAME_HASH: [[i32; 8]; 8] = [
     [-51, 144, -73, 2, 120, 180, -23, -151],
 ];
 
-/// 540 constants and 484 terms over eight of them, all different and all with one hash.
+/// 540 constants and 484 terms over eight of them, all different, which a linear hash does not tell apart.
 fn one_hash() -> Base {
     const LEAVES: i32 = 540;
     let mut terms: Vec<Term> = (0..LEAVES as u32).map(|symbol| over(symbol, &[])).collect();
@@ -298,7 +299,7 @@ fn few_buckets() -> Base {
 }
 
 /// The bases that are hardest on one part of the work each: a chain of bindings, a deep term, values that are large as trees, a table
-/// filled to the brim, an index whose pairs share few buckets, and terms that the hash does not tell apart.
+/// filled to the brim, an index whose pairs share few buckets, and terms that a linear hash does not tell apart.
 pub fn hard() -> [(&'static str, Base); 6] {
     [
         ("a chain of 1,023 bindings", chain(true)),
@@ -306,7 +307,7 @@ pub fn hard() -> [(&'static str, Base); 6] {
         ("511 levels, doubled", ladder()),
         ("a full table", brim(0)),
         ("1,816 pairs in 24 buckets", few_buckets()),
-        ("484 terms of one hash", one_hash()),
+        ("484 terms of one linear hash", one_hash()),
     ]
 }
 

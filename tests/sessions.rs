@@ -323,31 +323,41 @@ fn worked() -> Vec<(Vec<u8>, &'static str)> {
     ]
 }
 
-/// The sessions that take longest of those tried, each filled up to the last byte with the same steps. Behind two variables each term
-/// is over eight times the one before it; the line of the last two fills the table but for two entries, which lines of the variables
-/// take. With each the length of its first part, which ends with a step.
+/// The sessions that take longest of those tried, each filled up to the last byte with the same steps, and the length of its first
+/// part, which ends with a step. Behind three variables each term is over eight times the one before it. Either the line of the last
+/// two terms and three lines of variables fill the table, so that a choice needs an entry too many at once; or the table is nearly
+/// empty, and a choice walks through as many entries as there may be before it needs one too many.
 fn slow() -> Vec<(&'static str, Vec<u8>, usize)> {
-    let term = |own: u32| if own < 2 { Term::Variable } else { over(4_095, &[if own == 2 { 0 } else { own - 1 }; 8]) };
-    let terms: Vec<Term> = (0..1_024).map(term).collect();
-    let mut steps = Vec::new();
-    for (l, r) in [(1, 100), (0, 0)].into_iter().chain([(1_023, 1_022); 254]) {
-        push_step(&mut steps, Call::Add { l, r });
-    }
-    let start = of(&encode(&terms), &steps);
-    let (line, choice) = (Call::Add { l: 0, r: 1 }, Call::Bind { v: 1, t: 90 });
-    let units = [
-        ("reports", vec![Call::Report]),
-        ("lines refused with 12", vec![line]),
-        ("choices refused with 11", vec![choice]),
-        ("a report and a choice refused with 11", vec![Call::Report, choice]),
-    ];
-    let filled = |(name, calls): (&'static str, Vec<Call>)| {
-        let mut unit = Vec::new();
-        calls.iter().for_each(|&call| push_step(&mut unit, call));
+    let term = |own: u32| match own {
+        0..=2 => Term::Variable,
+        3 => over(4_095, &[0; 8]),
+        _ => over(4_095, &[own - 1; 8]),
+    };
+    let book = encode(&(0..1_024).map(term).collect::<Vec<Term>>());
+    let bytes = |calls: &[Call]| {
+        let mut steps = Vec::new();
+        calls.iter().for_each(|&call| push_step(&mut steps, call));
+        steps
+    };
+    let line = |(l, r)| Call::Add { l, r };
+    let mut full = [(1, 100), (0, 0), (0, 1)].map(line).to_vec();
+    full.resize(256, line((1_023, 1_022)));
+    let mut empty = vec![Call::Bind { v: 2, t: 1_022 }, line((1, 1_023))];
+    empty.extend((3..14).map(|r| line((0, r))));
+    let choice = Call::Bind { v: 1, t: 90 };
+    let filled = |(name, first, then): (&'static str, &Vec<Call>, Vec<Call>)| {
+        let (start, unit) = (of(&book, &bytes(first)), bytes(&then));
         let input = [start.clone(), unit.repeat((LONGEST - start.len()) / unit.len())].concat();
         (name, input, start.len() + 50 * unit.len())
     };
-    units.map(filled).to_vec()
+    let sessions = [
+        ("reports", &full, vec![Call::Report]),
+        ("lines refused with 12", &full, vec![line((0, 1))]),
+        ("choices refused with 11 at once", &full, vec![choice]),
+        ("a report and such a choice in turn", &full, vec![Call::Report, choice]),
+        ("choices refused with 11 after a long walk", &empty, vec![Call::Bind { v: 1, t: 2 }]),
+    ];
+    sessions.map(filled).to_vec()
 }
 
 /// The time of each slow session, the best of three runs, with nobody reading what it prints; its first part is compared before.

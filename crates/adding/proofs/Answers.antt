@@ -15,7 +15,7 @@ use Rattle.layout.specs.Rows.{Loaded, Sized, loadedState}
 use Rattle.area.specs.declared.Header.{Header}
 use Rattle.area.specs.Held.{held}
 use Rattle.sound.proofs.Parts.{Holds}
-use Rattle.kinds.specs.Known.{Room}
+use Rattle.pairs.specs.Index.{Room}
 use Rattle.state.specs.Ready.{Ready}
 use Rattle.state.proofs.Uses.{ready-facts, ready-sized, ready-holds}
 use Rattle.placing.specs.Stands.{HoldsTable, GivenTable, Whatever}
@@ -128,10 +128,10 @@ module _ {lim : Limits} {h : Header} {rows lines entries roots names : List ℕ}
         let k = ready-holds q in no-line lim _ l r (rw (k .terms-count) at left) (rw (k .terms-count) at right) (rw (k .lines-count) at n))
 
   -- what growing its table asks
-  module _ {lefts rights heads next : List ℕ} (room : Room lefts rights heads next (h .capacity)) {l r : ℕ} (left : l < h .terms) (right : r < h .terms) where
+  module _ {lefts rights cells : List ℕ} (room : Room lefts rights cells (h .capacity)) {l r : ℕ} (left : l < h .terms) (right : r < h .terms) where
     to-grow : {bindings list : List ℕ} → Ready lim (held h rows bindings lines entries) list roots names →
         let s = loadedState (held h rows bindings lines entries) in
-        ToGrow rows roots names entries lefts rights heads next (h .capacity) (h .entries) l r (s .book) (s .bound) (s .entries)
+        ToGrow rows roots names entries lefts rights cells (h .capacity) (h .entries) l r (s .book) (s .bound) (s .entries)
     to-grow q =
         let known = ready-known q in
         let k = ready-holds q .terms-count in
@@ -145,14 +145,14 @@ module _ {lim : Limits} {h : Header} {rows lines entries roots names : List ℕ}
         }
 
     pub grow-given : GivenState lim h rows lines entries roots names
-        → GivenTable (ToGrow rows roots names entries lefts rights heads next (h .capacity) (h .entries) l r)
+        → GivenTable (ToGrow rows roots names entries lefts rights cells (h .capacity) (h .entries) l r)
     grow-given g =
         let s = loadedState (held h rows (g .bindings) lines entries) in
         record { book = s .book; bound = s .bound; table = s .entries; known = to-grow (g .ready) }
 
-    module _ {p : Placed} {entries′ lefts′ rights′ heads′ next′ : List ℕ}
-        (grown : Whatever (ToGrow rows roots names entries lefts rights heads next (h .capacity) (h .entries) l r)
-        (IsGrown entries′ lefts′ rights′ heads′ next′ (h .capacity) l r p)) (some-line : h .lines < lim .maxLines) where
+    module _ {p : Placed} {entries′ lefts′ rights′ cells′ : List ℕ}
+        (grown : Whatever (ToGrow rows roots names entries lefts rights cells (h .capacity) (h .entries) l r)
+        (IsGrown entries′ lefts′ rights′ cells′ (h .capacity) l r p)) (some-line : h .lines < lim .maxLines) where
       -- it needs more entries than the capacity
       pub full-refused : {a : Stepped} (lines′ : List ℕ) → a ≡ record { refusal = 11; first = 0; second = 0; entries = 0; lines = 0 } → p .full ≡ true
           → AddsLine lim h rows lines entries roots names l r a lines′ entries′

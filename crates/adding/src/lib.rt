@@ -2,7 +2,7 @@
 
 ghost use Rattle.theory.specs.Modest.{Modest};
 ghost use Rattle.layout.specs.Limits.{limitsOf};
-ghost use Rattle.kinds.specs.Known.{Room};
+ghost use Rattle.pairs.specs.Index.{Room};
 ghost use Rattle.adding.specs.Adding.{GivenState, AddsLine};
 use area::Header;
 use layout::Limits;
@@ -22,12 +22,11 @@ pub fn add_line(
     r: u32,
     ls: &mut [u32],
     rs: &mut [u32],
-    hs: &mut [u32],
-    ns: &mut [u32],
+    cs: &mut [u32],
 ) -> Stepped
     requires modest { ⌜ Modest (limitsOf lim) ⌝ }
     requires given { ⌜ GivenState (limitsOf lim) h (now rows) (now lines) (now entries) (now roots) (now names) ⌝ }
-    requires room { ⌜ Room (now ls) (now rs) (now hs) (now ns) (h .capacity) ⌝ }
+    requires room { ⌜ Room (now ls) (now rs) (now cs) (h .capacity) ⌝ }
     ensures { λ s. ⌜ AddsLine (limitsOf lim) h (now (rows .entry)) (now (lines .entry)) (now (entries .entry)) (now (roots .entry)) (now (names .entry)) l r
         s (now (lines .exit)) (now (entries .exit)) ⌝ }
 {
@@ -43,7 +42,7 @@ pub fn add_line(
     }
     let cap = h.capacity as usize;
     let m = h.entries as usize;
-    let g = growing::grow(rows, roots, names, entries, cap, m, l, r, ls, rs, hs, ns);
+    let g = growing::grow(rows, roots, names, entries, cap, m, l, r, ls, rs, cs);
     if g.full {
         return steps::refused(11);
     }

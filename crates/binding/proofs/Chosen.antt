@@ -23,9 +23,9 @@ use Rattle.area.specs.Held.{held}
 use Rattle.values.specs.Reading.{Listed}
 use Rattle.names.proofs.Lowest.{scratch-kept}
 use Rattle.sound.proofs.Tests.{row-facts}
-use Rattle.kinds.proofs.Room.{room-kept}
+use Rattle.pairs.proofs.Rooms.{room-kept}
 use Rattle.valued.proofs.Rooms.{fewer-terms}
-use Rattle.state.proofs.Rooms.{fewer-entries}
+use Rattle.pairs.proofs.Rooms.{room-fewer}
 use Rattle.state.proofs.Uses.{ready-facts, ready-holds}
 use Rattle.placing.specs.Stands.{HoldsTable}
 use Rattle.steps.specs.Stepped.{after, Leaves, Gives}
@@ -38,14 +38,14 @@ use Rattle.binding.specs.Choice.{Asked, earlyRefusal}
 use Rattle.binding.proofs.Tests.{choice-numbers, Passed, passed, bind-tests}
 use Rattle.binding.proofs.Words.{bound-set, words-set}
 
--- what the tests before the walk ask; the links are the scratch
-pub tests-ask : {h : Header} {rows bindings list roots names entries lefts rights heads next : List ℕ} {lim : Limits} {lines : List ℕ}
-    → Asked h rows bindings list roots names entries lefts rights heads next lim lines → Listed rows bindings list (h .terms) × (h .terms ≤ length next)
+-- what the tests before the walk ask; the cells are the scratch
+pub tests-ask : {h : Header} {rows bindings list roots names entries lefts rights cells : List ℕ} {lim : Limits} {lines : List ℕ}
+    → Asked h rows bindings list roots names entries lefts rights cells lim lines → Listed rows bindings list (h .terms) × (h .terms ≤ length cells)
 tests-ask a =
-    (a .ready .valued .listed, omega (arith, a .ready .used .bindings-fit, a .ready .sizes .bindings-size, a .lent .for-terms .scratch .room .links))
+    (a .ready .valued .listed, omega (arith, a .ready .used .bindings-fit, a .ready .sizes .bindings-size, a .lent .for-terms .scratch .room .cells-fit))
 
-module _ {h : Header} {rows bindings list roots names entries lefts rights heads next : List ℕ} {lim : Limits} {lines : List ℕ}
-    (a : Asked h rows bindings list roots names entries lefts rights heads next lim lines) (v t : ℕ) {r : ℕ}
+module _ {h : Header} {rows bindings list roots names entries lefts rights cells : List ℕ} {lim : Limits} {lines : List ℕ}
+    (a : Asked h rows bindings list roots names entries lefts rights cells lim lines) (v t : ℕ) {r : ℕ}
     (tested : r ≡ earlyRefusal (bookOf rows (h .terms)) (boundOf bindings (h .terms)) v t) where
   abbrev state : State
   state = loadedState (held h rows bindings lines entries)
@@ -71,7 +71,7 @@ module _ {h : Header} {rows bindings list roots names entries lefts rights heads
     pub t-fits : t + 1 < 4294967296
     t-fits =
         let t-term : t < h .terms = rw length-bookOf at (tests .t-term) in
-        omega (arith, a .ready .used .bindings-fit, a .ready .sizes .bindings-size, a .lent .for-terms .scratch .room .lefts, a .lent .for-terms .scratch .left-words)
+        omega (arith, a .ready .used .bindings-fit, a .ready .sizes .bindings-size, a .lent .for-terms .scratch .room .lefts-fit, a .lent .for-terms .scratch .room .words)
 
     pub v-fits : v < length bindings
     v-fits = omega (arith, v-term, a .ready .used .bindings-fit)
@@ -99,8 +99,8 @@ module _ {h : Header} {rows bindings list roots names entries lefts rights heads
         }
 
     -- what the rest asks
-    pub to-rebuild : {next′ : List ℕ} → length next′ ≡ length next
-        → ToRebuild h rows (set bindings v (t + 1)) list roots names entries lefts rights heads next′
+    pub to-rebuild : {cells′ : List ℕ} → length cells′ ≡ length cells
+        → ToRebuild h rows (set bindings v (t + 1)) list roots names entries lefts rights cells′
     unfolding loadedState
     to-rebuild k =
         let room = a .lent .for-terms in
@@ -115,8 +115,8 @@ module _ {h : Header} {rows bindings list roots names entries lefts rights heads
           right-term = rw (length-tableOf entries (h .entries), terms) at (sides .right-term);
           long = a .ready .sizes .entries-size;
           for-terms = fewer-terms few
-              (record { list-fits = room .list-fits; names-fit = room .names-fit; scratch = scratch-kept (room .scratch) refl refl refl k refl });
-          for-entries = fewer-entries (facts .capacity-fits) (room-kept (a .lent .for-entries) refl refl refl k);
+              (record { list-fits = room .list-fits; names-fit = room .names-fit; scratch = scratch-kept (room .scratch) refl refl k refl });
+          for-entries = room-fewer (facts .capacity-fits) (room-kept (a .lent .for-entries) refl refl k);
         }
 
     module _ {entries′ : List ℕ} (k : length entries′ ≡ length entries) where

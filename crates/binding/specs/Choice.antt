@@ -14,9 +14,9 @@ use Rattle.area.specs.Held.{held}
 use Rattle.state.specs.Ready.{Lent, Ready}
 
 -- The slices hold a sound state with its lines, within the limits, and are lent room for every such state.
-pub record Asked (h : Header) (rows bindings list roots names entries lefts rights heads next : List ℕ) (lim : Limits) (lines : List ℕ) : Type 0 where
+pub record Asked (h : Header) (rows bindings list roots names entries lefts rights cells : List ℕ) (lim : Limits) (lines : List ℕ) : Type 0 where
   pub ready : Ready lim (held h rows bindings lines entries) list roots names
-  pub lent : Lent lim list roots names lefts rights heads next
+  pub lent : Lent lim list roots names lefts rights cells
 
 -- Something is known for some limits and some lines.
 pub record Given (P : Limits → List ℕ → Type 0) : Type 0 where

@@ -57,7 +57,7 @@ fn early_refusal(
 }
 
 // Binds the variable `v` to the term `t`: 8, 9, 10, 11, or how many entries turned and how many were appended. Where it is
-// refused, what the slices hold is left free; `ls`, `rs`, `hs` and `ns` are scratch.
+// refused, what the slices hold is left free; `ls`, `rs` and `cs` are scratch.
 pub fn bind(
     h: Header,
     rows: &[u32],
@@ -70,20 +70,19 @@ pub fn bind(
     t: u32,
     ls: &mut [u32],
     rs: &mut [u32],
-    hs: &mut [u32],
-    ns: &mut [u32],
+    cs: &mut [u32],
 ) -> Stepped
-    requires { ⌜ Given (Asked h (now rows) (now bindings) (now list) (now roots) (now names) (now es) (now ls) (now rs) (now hs) (now ns)) ⌝ }
+    requires { ⌜ Given (Asked h (now rows) (now bindings) (now list) (now roots) (now names) (now es) (now ls) (now rs) (now cs)) ⌝ }
     ensures { λ s. ⌜ ((lim : Limits) (lines : List ℕ)
-        → Asked h (now (rows .entry)) (now (bindings .entry)) (now (list .entry)) (now (roots .entry)) (now (names .entry)) (now (es .entry)) (now (ls .entry)) (now (rs .entry)) (now (hs .entry)) (now (ns .entry)) lim lines
+        → Asked h (now (rows .entry)) (now (bindings .entry)) (now (list .entry)) (now (roots .entry)) (now (names .entry)) (now (es .entry)) (now (ls .entry)) (now (rs .entry)) (now (cs .entry)) lim lines
         → Gives lim (Step.bind (loadedState (held h (now (rows .entry)) (now (bindings .entry)) lines (now (es .entry)))) v t)
         (s .refusal) (s .first ∷ s .second ∷ []) (held (after h s) (now (rows .entry)) (now (bindings .exit)) lines (now (es .exit)))) ⌝ }
 {
-    let refusal = early_refusal(h.terms, rows, bindings, list, v, t, ns);
+    let refusal = early_refusal(h.terms, rows, bindings, list, v, t, cs);
     if refusal != 0 {
         return steps::refused(refusal);
     }
     let i = v as usize;
     bindings[i] = t + 1;
-    rebuilding::rebuild(h, rows, bindings, list, roots, names, es, ls, rs, hs, ns)
+    rebuilding::rebuild(h, rows, bindings, list, roots, names, es, ls, rs, cs)
 }

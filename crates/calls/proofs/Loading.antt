@@ -7,7 +7,7 @@ use lib.ListN.{length, take, length-take}
 use Rattle.model.specs.Limits.{Limits}
 use Rattle.model.specs.Area.{entryRowWords, word}
 use Rattle.names.proofs.Lowest.{scratch-kept}
-use Rattle.kinds.proofs.Room.{room-kept}
+use Rattle.pairs.proofs.Rooms.{room-kept}
 use Rattle.area.specs.declared.Header.{Header}
 use Rattle.area.specs.Held.{held}
 use Rattle.state.specs.Loading.{headerOf}
@@ -15,14 +15,14 @@ use Rattle.state.specs.Ready.{Lent, Read}
 use Rattle.reading.proofs.Whole.{HeaderOf}
 
 -- slices of the same lengths have room for the same states
-pub lent-kept : {lim : Limits} {list roots names ls rs heads next list′ roots′ names′ ls′ rs′ heads′ next′ : List ℕ} → Lent lim list roots names ls rs heads next
+pub lent-kept : {lim : Limits} {list roots names ls rs cells list′ roots′ names′ ls′ rs′ cells′ : List ℕ} → Lent lim list roots names ls rs cells
     → length list′ ≡ length list → length roots′ ≡ length roots → length names′ ≡ length names → length ls′ ≡ length ls → length rs′ ≡ length rs
-    → length heads′ ≡ length heads → length next′ ≡ length next → Lent lim list′ roots′ names′ ls′ rs′ heads′ next′
-lent-kept l i o n p q h x =
+    → length cells′ ≡ length cells → Lent lim list′ roots′ names′ ls′ rs′ cells′
+lent-kept l i o n p q c =
     let t = l .for-terms in
     record {
-      for-terms = record { list-fits = rw i (t .list-fits); names-fit = rw n (t .names-fit); scratch = scratch-kept (t .scratch) p q h x o };
-      for-entries = room-kept (l .for-entries) p q h x;
+      for-terms = record { list-fits = rw i (t .list-fits); names-fit = rw n (t .names-fit); scratch = scratch-kept (t .scratch) p q c o };
+      for-entries = room-kept (l .for-entries) p q c;
     }
 
 module _ {lim : Limits} {area rows bindings lines list roots names : List ℕ} {h : Header} (entries : List ℕ) (head : HeaderOf area h)

@@ -23,15 +23,14 @@ pub fn step(
     names: &mut [u32],
     ls: &mut [u32],
     rs: &mut [u32],
-    hs: &mut [u32],
-    ns: &mut [u32],
+    cs: &mut [u32],
     fixes: bool,
     a: u32,
     b: u32,
 ) -> Stepped
     requires modest { ⌜ Modest (limitsOf lim) ⌝ }
     requires sizes { ⌜ Sizes (limitsOf lim) (lim .capacity) (now rows) (now bound) (now lines) (now entries) ⌝ }
-    requires lent { ⌜ Lent (limitsOf lim) (now seq) (now roots) (now names) (now ls) (now rs) (now hs) (now ns) ⌝ }
+    requires lent { ⌜ Lent (limitsOf lim) (now seq) (now roots) (now names) (now ls) (now rs) (now cs) ⌝ }
     ensures { λ s. ⌜ Called (callStep (limitsOf lim) fixes (now (area .entry)) a b) fixes s (now (area .exit)) ⌝ }
 {
     if !reading::sound(
@@ -46,8 +45,7 @@ pub fn step(
         area,
         ls,
         rs,
-        hs,
-        ns,
+        cs,
     ) {
         return steps::refused(7);
     }
@@ -61,7 +59,7 @@ pub fn step(
         a,
         b,
     };
-    let s = stepping::take(bound, lines, es, rows, seq, roots, names, q, ls, rs, hs, ns);
+    let s = stepping::take(bound, lines, es, rows, seq, roots, names, q, ls, rs, cs);
     stepping::keep(area, lim, h, s, rows, bound, lines, es);
     s
 }

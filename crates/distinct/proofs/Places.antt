@@ -1,12 +1,12 @@
 -- The pairs of a table's sides, each number under a function, pushed in order: what each push answers. Assumes nothing.
 use mathlib.Core.Path.{_≡_, refl, sym, _∙_}
-use mathlib.Core.List.{List, map}
-use Prim.Native.Nat.{ℕ, _+_, _*_, _<_}
+use mathlib.Core.List.{List, _++_, map}
+use Prim.Native.Nat.{ℕ, suc, _+_, _<_}
 use native.Mathlib.Nat.{not-suc-le-zero}
 use native.Mathlib.Numerals.{add-one}
 use native.Mathlib.Omega.{arith}
 use borrow.Author.Count.{below-more}
-use lib.ListN.{length, getD, set, length-set}
+use lib.ListN.{length, getD, drop, set, replicate, length-set}
 use lib.Dec.{T, eqb, eqb→eq}
 use Rattle.model.specs.Lists.{all, from}
 use Rattle.model.specs.Term.{Book, Bindings, name}
@@ -17,10 +17,10 @@ use Rattle.theory.proofs.Soundness.Table.{eq-T, distinct-facts, facts-distinct}
 use Rattle.theory.proofs.Soundness.Terms.{all-below, below-all}
 use Rattle.theory.proofs.Table.Search.{getD-map-lt}
 use Rattle.pairs.specs.Pairs.{placeOf}
-use Rattle.pairs.specs.Index.{Indexed, noHeads, Pushed}
+use Rattle.pairs.specs.Index.{buckets, Room, Indexed, Pushed}
 use Rattle.pairs.proofs.Laws.{Holds, Kept, place-least, place-none, place-at, place-kept, kept-set, holds-set}
+use Rattle.pairs.proofs.Rooms.{room-kept, room-fewer}
 use Rattle.pairs.proofs.Growth.{indexed-none}
-use Rattle.kinds.specs.Known.{Room}
 use Rattle.kinds.proofs.Names.{SideNames, entryOf-place}
 
 -- one side of each entry under f
@@ -35,16 +35,17 @@ pub placeBy : (ℕ → ℕ) → Table → ℕ → ℕ
 placeBy f es i = placeOf (leftsBy f es) (rightsBy f es) i (f (entry es i .left)) (f (entry es i .right))
 
 -- The pairs of the first i entries are pushed.
-pub record Filled (f : ℕ → ℕ) (es : Table) (lefts rights heads next : List ℕ) (i : ℕ) : Type 0 where
-  pub indexed : Indexed lefts rights heads next i
+pub record Filled (f : ℕ → ℕ) (es : Table) (lefts rights cells : List ℕ) (i : ℕ) : Type 0 where
+  pub indexed : Indexed lefts rights cells i
   pub kept : Kept (leftsBy f es) (rightsBy f es) lefts rights i
 
--- And the slices have the lengths that they had.
-pub record Filling (f : ℕ → ℕ) (es : Table) (lefts₀ rights₀ next₀ lefts rights heads next : List ℕ) (i : ℕ) : Type 0 where
-  pub filled : Filled f es lefts rights heads next i
+-- And there is room for all, in slices of the lengths that they had.
+pub record Filling (f : ℕ → ℕ) (es : Table) (lefts₀ rights₀ cells₀ lefts rights cells : List ℕ) (i : ℕ) : Type 0 where
+  pub filled : Filled f es lefts rights cells i
+  pub room : Room lefts rights cells (length es)
   pub lefts-size : length lefts ≡ length lefts₀
   pub rights-size : length rights ≡ length rights₀
-  pub next-size : length next ≡ length next₀
+  pub cells-size : length cells ≡ length cells₀
 
 module _ (f : ℕ → ℕ) (es : Table) where
   -- entry i has its pair at place i
@@ -57,27 +58,29 @@ module _ (f : ℕ → ℕ) (es : Table) where
       }
 
   -- none are pushed
-  filled-none : (lefts rights heads next : List ℕ) → heads ≡ noHeads → length lefts < 4294967296 → Filled f es lefts rights heads next 0
-  filled-none lefts rights heads next e h =
+  pub filling-none : {lefts rights cells cells₀ : List ℕ} {m : ℕ} → length es ≡ m → Room lefts rights cells m
+      → cells₀ ≡ replicate buckets 0 ++ drop buckets cells → length cells₀ ≡ length cells → Filling f es lefts rights cells₀ lefts rights cells₀ 0
+  filling-none {cells = cells} size room e same =
       record {
-        indexed = indexed-none lefts rights heads next e h;
-        kept = record { left = λ j l. absurd (not-suc-le-zero l); right = λ j l. absurd (not-suc-le-zero l) };
+        filled = record {
+          indexed = indexed-none (room-kept room refl refl same) cells e;
+          kept = record { left = λ j l. absurd (not-suc-le-zero l); right = λ j l. absurd (not-suc-le-zero l) };
+        };
+        room = rw size (room-kept room refl refl same);
+        lefts-size = refl;
+        rights-size = refl;
+        cells-size = refl;
       }
 
-  pub filling-none : (lefts rights heads next : List ℕ) → heads ≡ noHeads → length lefts < 4294967296
-      → Filling f es lefts rights next lefts rights heads next 0
-  filling-none lefts rights heads next e h =
-      record { filled = filled-none lefts rights heads next e h; lefts-size = refl; rights-size = refl; next-size = refl }
-
   -- one more is pushed: the answer, and the pairs after it
-  module _ {lefts rights heads next lefts′ rights′ heads′ next′ : List ℕ} {i a b r : ℕ} (there : i < length es)
-      (s : Filled f es lefts rights heads next i) (p : Pushed lefts rights lefts′ rights′ heads′ next′ i a b r)
+  module _ {lefts rights cells lefts′ rights′ cells′ : List ℕ} {i a b r : ℕ} (there : i < length es)
+      (s : Filled f es lefts rights cells i) (p : Pushed lefts rights lefts′ rights′ cells′ i a b r)
       (l : a ≡ f (entry es i .left)) (h : b ≡ f (entry es i .right)) where
     pub filled-place : r ≡ placeBy f es i
     unfolding placeBy
     filled-place = p .place ∙ rw (l, h) (place-kept (s .kept) i _ _ (omega arith))
 
-    filled-more : i < length lefts → i < length rights → Filled f es lefts′ rights′ heads′ next′ (i + 1)
+    filled-more : i < length lefts → i < length rights → Filled f es lefts′ rights′ cells′ (i + 1)
     filled-more room-left room-right =
         let own = side-pair i there in
         let new = holds-set lefts rights i a b room-left room-right in
@@ -93,26 +96,28 @@ module _ (f : ℕ → ℕ) (es : Table) where
         })
 
   -- the slices have room for one more
-  module _ {lefts₀ rights₀ heads₀ next₀ lefts rights heads next : List ℕ} {i : ℕ}
-      (room : Room lefts₀ rights₀ heads₀ next₀ (length es)) (there : i < length es)
-      (s : Filling f es lefts₀ rights₀ next₀ lefts rights heads next i) where
-    pub push-room : (i < length lefts) × (i < length rights) × (2 * i + 1 < length next)
-    push-room = (
-      omega (arith, room .lefts-fit, s .lefts-size),
-      omega (arith, room .rights-fit, s .rights-size),
-      omega (arith, room .next-fit, s .next-size),
-    )
+  module _ {lefts₀ rights₀ cells₀ lefts rights cells : List ℕ} {i : ℕ} (there : i < length es)
+      (s : Filling f es lefts₀ rights₀ cells₀ lefts rights cells i) where
+    pub push-room : Room lefts rights cells (suc i)
+    push-room = room-fewer there (s .room)
 
-    pub filling-more : {lefts′ rights′ heads′ next′ : List ℕ} {a b r : ℕ} → Pushed lefts rights lefts′ rights′ heads′ next′ i a b r
-        → length next′ ≡ length next → a ≡ f (entry es i .left) → b ≡ f (entry es i .right)
-        → Filling f es lefts₀ rights₀ next₀ lefts′ rights′ heads′ next′ (i + 1)
-    filling-more p n l h =
+    pub filling-more : {lefts′ rights′ cells′ : List ℕ} {a b r : ℕ} → Pushed lefts rights lefts′ rights′ cells′ i a b r
+        → length cells′ ≡ length cells → a ≡ f (entry es i .left) → b ≡ f (entry es i .right)
+        → Filling f es lefts₀ rights₀ cells₀ lefts′ rights′ cells′ (i + 1)
+    filling-more {lefts′} {rights′} p n l h =
         record {
-          filled = filled-more there (s .filled) p l h (push-room .0) (push-room .1);
-          lefts-size = rw (p .left, length-set) (s .lefts-size);
-          rights-size = rw (p .right, length-set) (s .rights-size);
-          next-size = n ∙ s .next-size;
+          filled = filled-more there (s .filled) p l h (push-room .lefts-fit) (push-room .rights-fit);
+          room = room-kept (s .room) left right n;
+          lefts-size = left ∙ s .lefts-size;
+          rights-size = right ∙ s .rights-size;
+          cells-size = n ∙ s .cells-size;
         }
+      where
+        left : length lefts′ ≡ length lefts
+        left = rw (p .left, length-set)
+
+        right : length rights′ ≡ length rights
+        right = rw (p .right, length-set)
 
   -- under names the answer is the lowest entry with the values of entry i
   module _ (b : Book) (β : Bindings) (named : (t : ℕ) → t < length b → f t ≡ name b β t)

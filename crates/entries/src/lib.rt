@@ -1,5 +1,5 @@
 // The test of same-as in a loaded table, and with it all tests that look at values and at pairs of entries, on names and roots that
-// are computed already (kinds specs/Known.antt, specs/Tests.antt). They only read the table; `lefts`, `rights`, `heads` and `next`
+// are computed already (kinds specs/Known.antt, specs/Tests.antt). They only read the table; `lefts`, `rights` and `cells`
 // are scratch.
 
 ghost use mathlib.Core.Bool.{_&&_};
@@ -7,7 +7,8 @@ ghost use Rattle.model.specs.Lists.{all};
 ghost use Rattle.model.specs.Area.{distinct};
 ghost use Rattle.layout.specs.Rows.{tableOf};
 ghost use Rattle.sound.specs.Sound.{valuesOk};
-ghost use Rattle.kinds.specs.Known.{Named, Known, Given, Answers, Room};
+ghost use Rattle.kinds.specs.Known.{Named, Known, Given, Answers};
+ghost use Rattle.pairs.specs.Index.{Room};
 use layout::ENTRY_WORDS;
 ghost use Rattle.entries.specs.Tests.{sameAsRight};
 
@@ -18,21 +19,20 @@ fn same_as_ok(
     m: usize,
     lefts: &mut [u32],
     rights: &mut [u32],
-    heads: &mut [u32],
-    next: &mut [u32],
+    cells: &mut [u32],
 ) -> bool
     requires known { ⌜ Given (λ b β. Named b β (now names) (now entries) m) ⌝ }
-    requires room { ⌜ Room (now lefts) (now rights) (now heads) (now next) m ⌝ }
+    requires room { ⌜ Room (now lefts) (now rights) (now cells) m ⌝ }
     ensures { λ x. ⌜ Answers (λ b β. Named b β (now (names .entry)) (now (entries .entry)) m)
         (λ b β. all (sameAsRight b β (tableOf (now (entries .entry)) m)) (tableOf (now (entries .entry)) m)) x ⌝ }
 {
-    pairs::clear(heads);
+    clearing::clear(cells, pairs::BUCKETS);
     let mut i = 0;
     while i < m {
         let row = ENTRY_WORDS * i;
         let left = entries[row] as usize;
         let right = entries[row + 1] as usize;
-        let place = pairs::push(lefts, rights, heads, next, i, names[left], names[right]);
+        let place = pairs::push(lefts, rights, cells, i, names[left], names[right]);
         if place != entries[row + ENTRY_WORDS - 1] as usize {
             return false;
         }
@@ -45,8 +45,7 @@ fn same_as_ok(
 pub fn table_ok(
     lefts: &mut [u32],
     rights: &mut [u32],
-    heads: &mut [u32],
-    next: &mut [u32],
+    cells: &mut [u32],
     rows: &[u32],
     roots: &[u32],
     names: &[u32],
@@ -54,7 +53,7 @@ pub fn table_ok(
     m: usize,
 ) -> bool
     requires known { ⌜ Given (λ b β. Known b β (now rows) (now roots) (now names) (now entries) m) ⌝ }
-    requires room { ⌜ Room (now lefts) (now rights) (now heads) (now next) m ⌝ }
+    requires room { ⌜ Room (now lefts) (now rights) (now cells) m ⌝ }
     ensures { λ x. ⌜ Answers (λ b β. Known b β (now (rows .entry)) (now (roots .entry)) (now (names .entry)) (now (entries .entry)) m)
         (λ b β. all (valuesOk b β (tableOf (now (entries .entry)) m)) (tableOf (now (entries .entry)) m)
         && distinct (tableOf (now (entries .entry)) m)) x ⌝ }
@@ -62,8 +61,8 @@ pub fn table_ok(
     if !kinds::kinds_ok(rows, roots, names, entries, m) {
         return false;
     }
-    if !same_as_ok(names, entries, m, lefts, rights, heads, next) {
+    if !same_as_ok(names, entries, m, lefts, rights, cells) {
         return false;
     }
-    distinct::distinct_ok(m, entries, lefts, rights, heads, next)
+    distinct::distinct_ok(m, entries, lefts, rights, cells)
 }

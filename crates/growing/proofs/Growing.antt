@@ -18,16 +18,16 @@ use Rattle.saturate.specs.Steps.{ToWalk, IsWalked}
 use Rattle.saturate.specs.declared.Walked.{Walked}
 use Rattle.growing.specs.Growing.{ToGrow, IsGrown}
 
-module _ {rows roots names entries lefts₀ rights₀ heads₀ next₀ : List ℕ} {capacity m l r : ℕ} where
-  pub index-given : GivenTable (ToGrow rows roots names entries lefts₀ rights₀ heads₀ next₀ capacity m l r)
-      → GivenTable (ToIndex names entries lefts₀ rights₀ heads₀ next₀ m)
+module _ {rows roots names entries lefts₀ rights₀ cells₀ : List ℕ} {capacity m l r : ℕ} where
+  pub index-given : GivenTable (ToGrow rows roots names entries lefts₀ rights₀ cells₀ capacity m l r)
+      → GivenTable (ToIndex names entries lefts₀ rights₀ cells₀ m)
   index-given g = record { book = g .book; bound = g .bound; table = g .table; known = g .known .to-index }
 
   -- the index is built
-  module _ {lefts rights heads next : List ℕ} (indexed : Whatever (ToIndex names entries lefts₀ rights₀ heads₀ next₀ m) (IsIndexed lefts rights heads next m))
-      (sizes : SameSizes entries lefts₀ rights₀ heads₀ next₀ entries lefts rights heads next) where
-    to-place : (b : Book) (β : Bindings) (es : Table) → ToGrow rows roots names entries lefts₀ rights₀ heads₀ next₀ capacity m l r b β es
-        → ToPlace names entries lefts rights heads next capacity m l r b β es
+  module _ {lefts rights cells : List ℕ} (indexed : Whatever (ToIndex names entries lefts₀ rights₀ cells₀ m) (IsIndexed lefts rights cells m))
+      (sizes : SameSizes entries lefts₀ rights₀ cells₀ entries lefts rights cells) where
+    to-place : (b : Book) (β : Bindings) (es : Table) → ToGrow rows roots names entries lefts₀ rights₀ cells₀ capacity m l r b β es
+        → ToPlace names entries lefts rights cells capacity m l r b β es
     to-place b β es q =
         record {
           known = q .to-index .known;
@@ -36,16 +36,16 @@ module _ {rows roots names entries lefts₀ rights₀ heads₀ next₀ : List �
           right-term = q .right-term;
         }
 
-    pub place-given : GivenTable (ToGrow rows roots names entries lefts₀ rights₀ heads₀ next₀ capacity m l r)
-        → GivenTable (ToPlace names entries lefts rights heads next capacity m l r)
+    pub place-given : GivenTable (ToGrow rows roots names entries lefts₀ rights₀ cells₀ capacity m l r)
+        → GivenTable (ToPlace names entries lefts rights cells capacity m l r)
     place-given g = record { book = g .book; bound = g .bound; table = g .table; known = to-place _ _ _ (g .known) }
 
     -- the pair is placed
-    module _ {p : Placed} {entries′ lefts′ rights′ heads′ next′ : List ℕ}
-        (placed : Whatever (ToPlace names entries lefts rights heads next capacity m l r) (IsPlaced entries′ lefts′ rights′ heads′ next′ capacity l r p)) where
+    module _ {p : Placed} {entries′ lefts′ rights′ cells′ : List ℕ}
+        (placed : Whatever (ToPlace names entries lefts rights cells capacity m l r) (IsPlaced entries′ lefts′ rights′ cells′ capacity l r p)) where
       -- no room for it: then there is none for the walk, which drops no entry
-      pub grown-full : p .full ≡ true → Whatever (ToGrow rows roots names entries lefts₀ rights₀ heads₀ next₀ capacity m l r)
-          (IsGrown entries′ lefts′ rights′ heads′ next′ capacity l r p)
+      pub grown-full : p .full ≡ true → Whatever (ToGrow rows roots names entries lefts₀ rights₀ cells₀ capacity m l r)
+          (IsGrown entries′ lefts′ rights′ cells′ capacity l r p)
       grown-full f b β es q =
           let beyond = ltb-true capacity _ (sym (placed b β es (to-place b β es q) .reaches .is-full) ∙ f) in
           let longer = walk-extends b β (suc capacity) 0 (place b β es l r) .longer in
@@ -55,20 +55,20 @@ module _ {rows roots names entries lefts₀ rights₀ heads₀ next₀ : List �
           }
 
       module _ (f : p .full ≡ false) where
-        to-walk : (b : Book) (β : Bindings) (es : Table) → ToGrow rows roots names entries lefts₀ rights₀ heads₀ next₀ capacity m l r b β es
-            → ToWalk rows roots names entries′ lefts′ rights′ heads′ next′ capacity (p .count) b β (place b β es l r)
+        to-walk : (b : Book) (β : Bindings) (es : Table) → ToGrow rows roots names entries lefts₀ rights₀ cells₀ capacity m l r b β es
+            → ToWalk rows roots names entries′ lefts′ rights′ cells′ capacity (p .count) b β (place b β es l r)
         to-walk b β es q = record { known = q .known; stands = placed b β es (to-place b β es q) .reaches .stands f }
 
-        pub walk-given : GivenTable (ToGrow rows roots names entries lefts₀ rights₀ heads₀ next₀ capacity m l r)
-            → GivenTable (ToWalk rows roots names entries′ lefts′ rights′ heads′ next′ capacity (p .count))
+        pub walk-given : GivenTable (ToGrow rows roots names entries lefts₀ rights₀ cells₀ capacity m l r)
+            → GivenTable (ToWalk rows roots names entries′ lefts′ rights′ cells′ capacity (p .count))
         walk-given g =
             record { book = g .book; bound = g .bound; table = place (g .book) (g .bound) (g .table) l r; known = to-walk _ _ _ (g .known) }
 
         -- the table is walked through
-        pub grown : {w : Walked} {entries″ lefts″ rights″ heads″ next″ : List ℕ}
-            → Whatever (ToWalk rows roots names entries′ lefts′ rights′ heads′ next′ capacity (p .count)) (IsWalked entries″ lefts″ rights″ heads″ next″ capacity w)
-            → Whatever (ToGrow rows roots names entries lefts₀ rights₀ heads₀ next₀ capacity m l r)
-            (IsGrown entries″ lefts″ rights″ heads″ next″ capacity l r (record { entry = p .entry; count = w .count; full = w .full }))
+        pub grown : {w : Walked} {entries″ lefts″ rights″ cells″ : List ℕ}
+            → Whatever (ToWalk rows roots names entries′ lefts′ rights′ cells′ capacity (p .count)) (IsWalked entries″ lefts″ rights″ cells″ capacity w)
+            → Whatever (ToGrow rows roots names entries lefts₀ rights₀ cells₀ capacity m l r)
+            (IsGrown entries″ lefts″ rights″ cells″ capacity l r (record { entry = p .entry; count = w .count; full = w .full }))
         grown walked b β es q =
             record {
               reaches = walked b β _ (to-walk b β es q) .reaches;

@@ -8,20 +8,20 @@ use lib.ListN.{length}
 use Rattle.model.specs.Term.{Book, Bindings}
 use Rattle.model.specs.Table.{Table, entryOf, place, walk}
 use Rattle.model.specs.Area.{entryRowWords}
-use Rattle.kinds.specs.Known.{Room}
+use Rattle.pairs.specs.Index.{Room}
 use Rattle.placing.specs.Stands.{KnownTerms, Reaches}
 use Rattle.placing.specs.declared.Placed.{Placed}
 use Rattle.indexing.specs.Indexing.{ToIndex}
 
 -- A pair of terms to be placed in a loaded table of m entries, which is then walked through; and that is done.
-pub record ToGrow (rows roots names entries lefts rights heads next : List ℕ) (capacity m l r : ℕ) (b : Book) (β : Bindings) (es : Table) : Type 0 where
+pub record ToGrow (rows roots names entries lefts rights cells : List ℕ) (capacity m l r : ℕ) (b : Book) (β : Bindings) (es : Table) : Type 0 where
   pub known : KnownTerms rows roots names b β
-  pub to-index : ToIndex names entries lefts rights heads next m b β es
+  pub to-index : ToIndex names entries lefts rights cells m b β es
   pub long : length entries ≡ entryRowWords * capacity
-  pub room : Room lefts rights heads next capacity
+  pub room : Room lefts rights cells capacity
   pub left-term : l < length b
   pub right-term : r < length b
 
-pub record IsGrown (entries lefts rights heads next : List ℕ) (capacity l r : ℕ) (p : Placed) (b : Book) (β : Bindings) (es : Table) : Type 0 where
-  pub reaches : Reaches entries lefts rights heads next capacity (p .count) (p .full) b β (walk b β (suc capacity) 0 (place b β es l r))
+pub record IsGrown (entries lefts rights cells : List ℕ) (capacity l r : ℕ) (p : Placed) (b : Book) (β : Bindings) (es : Table) : Type 0 where
+  pub reaches : Reaches entries lefts rights cells capacity (p .count) (p .full) b β (walk b β (suc capacity) 0 (place b β es l r))
   pub its-entry : p .full ≡ false → p .entry ≡ entryOf b β (place b β es l r) l r

@@ -6,19 +6,19 @@ use lib.ListN.{length}
 use Rattle.model.specs.Term.{Book, Bindings}
 use Rattle.model.specs.Table.{Table, entry}
 use Rattle.pairs.specs.Index.{Indexed}
-use Rattle.kinds.specs.Known.{Room}
+use Rattle.pairs.specs.Index.{Room}
 use Rattle.kinds.proofs.Names.{SideNames}
 use Rattle.placing.specs.Stands.{HoldsTable, KnownNames}
 
 -- A table of m entries whose index is to be built, and built: the names of its sides are indexed.
-pub record ToIndex (names entries lefts rights heads next : List ℕ) (m : ℕ) (b : Book) (β : Bindings) (es : Table) : Type 0 where
+pub record ToIndex (names entries lefts rights cells : List ℕ) (m : ℕ) (b : Book) (β : Bindings) (es : Table) : Type 0 where
   pub known : KnownNames names b β
   pub count : m ≡ length es
   pub held : HoldsTable entries es
   pub left-term : (i : ℕ) → i < length es → entry es i .left < length b
   pub right-term : (i : ℕ) → i < length es → entry es i .right < length b
-  pub room : Room lefts rights heads next m
+  pub room : Room lefts rights cells m
 
-pub record IsIndexed (lefts rights heads next : List ℕ) (m : ℕ) (b : Book) (β : Bindings) (es : Table) : Type 0 where
-  pub indexed : Indexed lefts rights heads next m
+pub record IsIndexed (lefts rights cells : List ℕ) (m : ℕ) (b : Book) (β : Bindings) (es : Table) : Type 0 where
+  pub indexed : Indexed lefts rights cells m
   pub names : SideNames b β es lefts rights

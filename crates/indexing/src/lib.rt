@@ -10,21 +10,20 @@ pub fn index(
     entries: &[u32],
     lefts: &mut [u32],
     rights: &mut [u32],
-    heads: &mut [u32],
-    next: &mut [u32],
+    cells: &mut [u32],
     m: usize,
 )
-    requires { ⌜ GivenTable (ToIndex (now names) (now entries) (now lefts) (now rights) (now heads) (now next) m) ⌝ }
-    ensures { λ _. ⌜ Whatever (ToIndex (now (names .entry)) (now (entries .entry)) (now (lefts .entry)) (now (rights .entry)) (now (heads .entry)) (now (next .entry)) m)
-        (IsIndexed (now (lefts .exit)) (now (rights .exit)) (now (heads .exit)) (now (next .exit)) m) ⌝ }
+    requires { ⌜ GivenTable (ToIndex (now names) (now entries) (now lefts) (now rights) (now cells) m) ⌝ }
+    ensures { λ _. ⌜ Whatever (ToIndex (now (names .entry)) (now (entries .entry)) (now (lefts .entry)) (now (rights .entry)) (now (cells .entry)) m)
+        (IsIndexed (now (lefts .exit)) (now (rights .exit)) (now (cells .exit)) m) ⌝ }
 {
-    pairs::clear(heads);
+    clearing::clear(cells, pairs::BUCKETS);
     let mut i = 0;
     while i < m {
         let e = entry::entry_at(entries, i);
         let left = names[e.left as usize];
         let right = names[e.right as usize];
-        pairs::push(lefts, rights, heads, next, i, left, right);
+        pairs::push(lefts, rights, cells, i, left, right);
         i += 1;
     }
 }

@@ -3,4 +3,3 @@ pub mod Rows
 pub mod Arguments
 pub mod EntryKind
 pub mod Loaded
-pub mod Room

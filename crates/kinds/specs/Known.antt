@@ -12,7 +12,6 @@ use Rattle.model.specs.Area.{termWords, entryRowWords}
 use Rattle.theory.specs.Values.{proper}
 use Rattle.layout.specs.Rows.{at, bookOf}
 use Rattle.rows.specs.RowTests.{entryRowsOk}
-use Rattle.pairs.specs.Index.{buckets}
 
 -- The names of the book's terms, and m rows of entries over these terms.
 pub record Named (b : Book) (β : Bindings) (names entries : List ℕ) (m : ℕ) : Type 0 where
@@ -48,11 +47,3 @@ pub record Given (P : Book → Bindings → Type 0) : Type 0 where
 -- The answer is that of a test, whatever the book and the bindings are of which this is known.
 abbrev pub Answers : (Book → Bindings → Type 0) → (Book → Bindings → Bool) → Bool → Type 0
 Answers P test r = (b : Book) (β : Bindings) → P b β → r ≡ test b β
-
--- The slices have room for a list of m pairs and its index.
-pub record Room (lefts rights heads next : List ℕ) (m : ℕ) : Type 0 where
-  pub all-heads : length heads ≡ buckets
-  pub words : length lefts < 4294967296
-  pub lefts-fit : m ≤ length lefts
-  pub rights-fit : m ≤ length rights
-  pub next-fit : 2 * m ≤ length next

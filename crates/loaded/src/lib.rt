@@ -14,6 +14,9 @@ pub const TABLE_WORDS: usize = layout::ENTRY_WORDS * layout::OFFICE_CAPACITY;
 // The pairs that there is room for in the scratch of a call: one for each entry, of which there are at least as many as terms.
 pub const PAIRS: usize = layout::OFFICE_CAPACITY;
 
+// The cells of their index.
+pub const CELLS: usize = pairs::BUCKETS + 2 * PAIRS;
+
 // Whether an area is sound; then the slices have the rows of its terms, its lines, the rows of its entries and the names of its
 // terms.
 pub fn read(
@@ -33,8 +36,7 @@ pub fn read(
     let mut roots = [0u32; layout::OFFICE_TERMS];
     let mut lefts = [0u32; PAIRS];
     let mut rights = [0u32; PAIRS];
-    let mut heads = [0u32; pairs::BUCKETS];
-    let mut next = [0u32; 2 * PAIRS];
+    let mut cells = [0u32; CELLS];
     reading::sound(
         rows,
         &mut bindings,
@@ -47,7 +49,6 @@ pub fn read(
         area,
         &mut lefts,
         &mut rights,
-        &mut heads,
-        &mut next,
+        &mut cells,
     )
 }

@@ -1,21 +1,22 @@
 -- Classes along the list: after k terms each of those has its class, and the pairs are the halves of the hashes of their keys.
 -- Assumes nothing.
 use mathlib.Core.Path.{_≡_, refl, ap, sym, _∙_}
-use mathlib.Core.List.{List}
-use Prim.Native.Nat.{ℕ, _+_, _*_, _/_, _%_, _≤_, _<_}
+use mathlib.Core.List.{List, _++_}
+use Prim.Native.Nat.{ℕ, suc, _+_, _/_, _%_, _≤_, _<_}
 use native.Mathlib.Nat.{not-suc-le-zero}
 use native.Mathlib.Numerals.{add-one}
 use native.Mathlib.Omega.{arith}
 use borrow.Author.Count.{below-more}
-use lib.ListN.{length, set, length-set}
+use lib.ListN.{length, drop, set, replicate, length-set}
 use Rattle.layout.specs.Rows.{at, bookOf, boundOf}
-use Rattle.pairs.specs.Index.{noHeads, Indexed, Pushed}
+use Rattle.pairs.specs.Index.{buckets, Room, Indexed, Pushed}
 use Rattle.pairs.proofs.Laws.{Holds, place-le, place-least, kept-holds, kept-set, holds-set}
+use Rattle.pairs.proofs.Rooms.{room-kept, room-fewer}
 use Rattle.pairs.proofs.Growth.{indexed-none}
 use Rattle.values.specs.Reading.{Listed}
 use Rattle.values.proofs.Settled.{Filled, filled-none, next-term, filled-more, filled-all}
 use Rattle.names.specs.Keys.{keyAt, hashFrom, Row}
-use Rattle.names.specs.Classes.{classOf, keyIn, Classable, Room, Scratch, SameClasses}
+use Rattle.names.specs.Classes.{classOf, keyIn, Classable, Scratch, SameClasses}
 use Rattle.names.proofs.ClassOf.{class-same, class-tells, class-lt, key-settled, row-of}
 
 -- the hash of the key of term t
@@ -27,31 +28,32 @@ abbrev Halves : List ℕ → List ℕ → ℕ → ℕ → Type 0
 Halves ls rs i h = Holds ls rs i (h / 4294967296) (h % 4294967296)
 
 -- After k terms: their classes, and the pairs of their hashes.
-pub record Classifying (rows bindings list : List ℕ) (n : ℕ) (classes₀ ls₀ rs₀ next₀ classes ls rs heads next : List ℕ) (k : ℕ) : Type 0 where
-  pub room : Room ls₀ rs₀ next₀ n
+pub record Classifying (rows bindings list : List ℕ) (n : ℕ) (classes₀ ls₀ rs₀ cells₀ classes ls rs cells : List ℕ) (k : ℕ) : Type 0 where
+  pub room : Room ls₀ rs₀ cells₀ n
   pub left-size : length ls ≡ length ls₀
   pub right-size : length rs ≡ length rs₀
-  pub next-size : length next ≡ length next₀
-  pub indexed : Indexed ls rs heads next k
+  pub cells-size : length cells ≡ length cells₀
+  pub indexed : Indexed ls rs cells k
   pub hashed : (i : ℕ) → i < k → Halves ls rs i (hashIn rows bindings list n (at list i))
   pub filled : Filled rows bindings list n (λ t w. w ≡ classOf rows bindings list n t) classes₀ classes k
 
-module _ {rows bindings list : List ℕ} {n : ℕ} {classes₀ ls₀ rs₀ next₀ : List ℕ} where
-  pub classifying-none : Listed rows bindings list n → {heads₀ : List ℕ} → Scratch ls₀ rs₀ heads₀ next₀ classes₀ n → {heads : List ℕ} → heads ≡ noHeads
-      → Classifying rows bindings list n classes₀ ls₀ rs₀ next₀ classes₀ ls₀ rs₀ heads next₀ 0
-  classifying-none listed scratch {heads} e =
+module _ {rows bindings list : List ℕ} {n : ℕ} {classes₀ ls₀ rs₀ cells₀ : List ℕ} where
+  pub classifying-none : Listed rows bindings list n → {cells : List ℕ} → Scratch ls₀ rs₀ cells classes₀ n
+      → cells₀ ≡ replicate buckets 0 ++ drop buckets cells → length cells₀ ≡ length cells
+      → Classifying rows bindings list n classes₀ ls₀ rs₀ cells₀ classes₀ ls₀ rs₀ cells₀ 0
+  classifying-none listed {cells} scratch e same =
       record {
-        room = scratch .room;
+        room = room-kept (scratch .room) refl refl same;
         left-size = refl;
         right-size = refl;
-        next-size = refl;
-        indexed = indexed-none ls₀ rs₀ heads next₀ e (scratch .left-words);
+        cells-size = refl;
+        indexed = indexed-none (room-kept (scratch .room) refl refl same) cells e;
         hashed = λ i l. absurd (not-suc-le-zero l);
         filled = filled-none listed (scratch .classes-fit);
       }
 
-  module _ {classes ls rs heads next : List ℕ} {k : ℕ}
-      (c : Classifying rows bindings list n classes₀ ls₀ rs₀ next₀ classes ls rs heads next k) where
+  module _ {classes ls rs cells : List ℕ} {k : ℕ}
+      (c : Classifying rows bindings list n classes₀ ls₀ rs₀ cells₀ classes ls rs cells k) where
     -- at the end the classes are those of the values
     pub classified : n ≤ k → SameClasses (bookOf rows n) (boundOf bindings n) classes n
     classified l =
@@ -69,19 +71,15 @@ module _ {rows bindings list : List ℕ} {n : ℕ} {classes₀ ls₀ rs₀ next�
       pub next-row : Row rows (length classes) (at list k)
       next-row = row-of (c .filled .listed) (length classes) (at list k) (next-term (c .filled) l) (omega (arith, c .filled .size, c .filled .fits))
 
-      pub next-room : (k < length ls) × (k < length rs) × (2 * k + 1 < length next)
-      next-room = (
-        omega (arith, c .room .lefts, c .left-size),
-        omega (arith, c .room .rights, c .right-size),
-        omega (arith, c .room .links, c .next-size),
-      )
+      pub next-room : Room ls rs cells (suc k)
+      next-room = room-kept (room-fewer l (c .room)) (c .left-size) (c .right-size) (c .cells-size)
 
       key-same : keyAt rows classes (at list k) ≡ keyIn rows bindings list n (at list k)
       key-same = key-settled (c .filled .listed) classes k l (c .filled .settled) k (omega arith)
 
       -- its pair is pushed
-      module _ {h : ℕ} (hash : h ≡ hashFrom 0 (keyAt rows classes (at list k))) {ls′ rs′ heads′ next′ : List ℕ} {r : ℕ}
-          (p : Pushed ls rs ls′ rs′ heads′ next′ k (h / 4294967296) (h % 4294967296) r) where
+      module _ {h : ℕ} (hash : h ≡ hashFrom 0 (keyAt rows classes (at list k))) {ls′ rs′ cells′ : List ℕ} {r : ℕ}
+          (p : Pushed ls rs ls′ rs′ cells′ k (h / 4294967296) (h % 4294967296) r) where
         hash-is : h ≡ hashIn rows bindings list n (at list k)
         hash-is = hash ∙ ap (hashFrom 0) key-same
 
@@ -101,14 +99,14 @@ module _ {rows bindings list : List ℕ} {n : ℕ} {classes₀ ls₀ rs₀ next�
             }
 
         -- one term more
-        pub classifying-more : length next′ ≡ length next → {w : ℕ} → w ≡ classOf rows bindings list n (at list k)
-            → Classifying rows bindings list n classes₀ ls₀ rs₀ next₀ (set classes (at list k) w) ls′ rs′ heads′ next′ (k + 1)
+        pub classifying-more : length cells′ ≡ length cells → {w : ℕ} → w ≡ classOf rows bindings list n (at list k)
+            → Classifying rows bindings list n classes₀ ls₀ rs₀ cells₀ (set classes (at list k) w) ls′ rs′ cells′ (k + 1)
         classifying-more e {w} is =
             record {
               room = c .room;
               left-size = ap length (p .left) ∙ length-set ls k (h / 4294967296) ∙ c .left-size;
               right-size = ap length (p .right) ∙ length-set rs k (h % 4294967296) ∙ c .right-size;
-              next-size = e ∙ c .next-size;
+              cells-size = e ∙ c .cells-size;
               indexed = rw add-one (p .indexed);
               hashed = below-more _ k (λ i q. kept i q) last;
               filled = filled-more (c .filled) w l is;
@@ -118,4 +116,4 @@ module _ {rows bindings list : List ℕ} {n : ℕ} {classes₀ ls₀ rs₀ next�
             kept i q = rw (p .left, p .right) (kept-holds (kept-set ls rs k (h / 4294967296) (h % 4294967296)) i _ _ q (c .hashed i q))
 
             last : Halves ls′ rs′ k (hashIn rows bindings list n (at list k))
-            last = rw (← hash-is, p .left, p .right) (holds-set ls rs k (h / 4294967296) (h % 4294967296) (next-room .0) (next-room .1))
+            last = rw (← hash-is, p .left, p .right) (holds-set ls rs k (h / 4294967296) (h % 4294967296) (next-room .lefts-fit) (next-room .rights-fit))

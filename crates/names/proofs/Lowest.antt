@@ -19,6 +19,7 @@ use Rattle.theory.proofs.Values.Ends.{lowest, lowest-holds}
 use Rattle.layout.specs.Rows.{at, bookOf, boundOf}
 use Rattle.layout.proofs.Rows.{length-bookOf}
 use Rattle.values.proofs.Settled.{words-map}
+use Rattle.pairs.proofs.Rooms.{room-kept}
 use Rattle.names.specs.Classes.{Scratch, SameClasses, lowestSame, Seen, lower, own, Counted}
 
 -- functions that agree below i + n give the same for n numbers from i on
@@ -67,31 +68,20 @@ names-found rows bindings n classes names rest s e =
     rw (lowest-names (bookOf rows n) (boundOf bindings n) classes n (length-bookOf rows n) s) at e
 
 -- slices of the same lengths are long enough too
-pub scratch-kept : {ls rs heads next classes : List ℕ} {n : ℕ} → Scratch ls rs heads next classes n → {ls′ rs′ heads′ next′ classes′ : List ℕ}
-    → length ls′ ≡ length ls → length rs′ ≡ length rs → length heads′ ≡ length heads → length next′ ≡ length next → length classes′ ≡ length classes
-    → Scratch ls′ rs′ heads′ next′ classes′ n
-scratch-kept s l r h x k =
-    record {
-      room =
-          record {
-            lefts = omega (arith, s .room .lefts);
-            rights = omega (arith, s .room .rights);
-            links = omega (arith, s .room .links);
-          };
-      left-words = omega (arith, s .left-words);
-      all-heads = h ∙ s .all-heads;
-      classes-fit = omega (arith, s .classes-fit);
-    }
+pub scratch-kept : {ls rs cells classes : List ℕ} {n : ℕ} → Scratch ls rs cells classes n → {ls′ rs′ cells′ classes′ : List ℕ}
+    → length ls′ ≡ length ls → length rs′ ≡ length rs → length cells′ ≡ length cells → length classes′ ≡ length classes
+    → Scratch ls′ rs′ cells′ classes′ n
+scratch-kept s l r c k = record { room = room-kept (s .room) l r c; classes-fit = omega (arith, s .classes-fit) }
 
 -- what finding the lowest terms asks, once the terms have their classes
-pub counted : {ls rs heads next classes names : List ℕ} {n : ℕ} → Scratch ls rs heads next classes n → n ≤ length names
+pub counted : {ls rs cells classes names : List ℕ} {n : ℕ} → Scratch ls rs cells classes n → n ≤ length names
     → {b : Book} {β : Bindings} {ls′ classes′ : List ℕ} → SameClasses b β classes′ n → length ls′ ≡ length ls → length classes′ ≡ length classes
     → Counted classes′ ls′ names n
 counted scratch fits same l k =
     record {
       classes-fit = omega (arith, scratch .classes-fit);
       terms = same .terms;
-      firsts-fit = omega (arith, scratch .room .lefts);
+      firsts-fit = omega (arith, scratch .room .lefts-fit);
       names-fit = fits;
     }
 

@@ -1,13 +1,13 @@
 -- Classes of terms: numbers that are equal exactly where the values are. Assumes nothing: these are definitions.
 use mathlib.Core.Path.{_≡_}
 use mathlib.Core.List.{List}
-use Prim.Native.Nat.{ℕ, suc, _+_, _*_, _≤_, _<_}
+use Prim.Native.Nat.{ℕ, _≤_, _<_}
 use lib.ListN.{length, take}
 use lib.Dec.{eqb}
 use Rattle.model.specs.Lists.{first, from}
 use Rattle.model.specs.Term.{Book, Bindings, eqTree, val}
 use Rattle.layout.specs.Rows.{at, nodeOf, bookOf, boundOf}
-use Rattle.pairs.specs.Index.{buckets}
+use Rattle.pairs.specs.Index.{Room}
 use Rattle.values.specs.Reading.{Listed}
 use Rattle.names.specs.Keys.{keyOf}
 
@@ -30,17 +30,9 @@ pub record Classable (rows bindings classes list : List ℕ) (n k place : ℕ) :
   pub place-within : place ≤ k
   pub no-key : place ≡ k → (j : ℕ) → j < k → keyIn rows bindings list n (at list k) ≡ keyIn rows bindings list n (at list j) → ⊥
 
--- There is room for m pairs.
-pub record Room (ls rs next : List ℕ) (m : ℕ) : Type 0 where
-  pub lefts : m ≤ length ls
-  pub rights : m ≤ length rs
-  pub links : 2 * m ≤ length next
-
--- The slices are long enough for n terms with a pair for each, and their numbers are words.
-pub record Scratch (ls rs heads next classes : List ℕ) (n : ℕ) : Type 0 where
-  pub room : Room ls rs next n
-  pub left-words : length ls < 4294967296
-  pub all-heads : length heads ≡ buckets
+-- The slices are long enough for n terms with a pair for each.
+pub record Scratch (ls rs cells classes : List ℕ) (n : ℕ) : Type 0 where
+  pub room : Room ls rs cells n
   pub classes-fit : n ≤ length classes
 
 -- Terms have one class exactly where they have one value, and a class is a term.

@@ -164,22 +164,21 @@ fn classify(
     n: u32,
     lefts: &mut [u32],
     rights: &mut [u32],
-    heads: &mut [u32],
-    next: &mut [u32],
+    cells: &mut [u32],
     classes: &mut [u32],
 )
-    requires scratch { ⌜ Scratch (now lefts) (now rights) (now heads) (now next) (now classes) n ⌝ }
+    requires scratch { ⌜ Scratch (now lefts) (now rights) (now cells) (now classes) n ⌝ }
     requires listed { ⌜ Listed (now rows) (now bindings) (now list) n ⌝ }
     ensures { λ _. ⌜ SameClasses (bookOf (now (rows .entry)) n) (boundOf (now (bindings .entry)) n) (now (classes .exit)) n ⌝ }
 {
-    pairs::clear(heads);
+    clearing::clear(cells, pairs::BUCKETS);
     let mut k = 0;
     while k < n as usize {
         let t = list[k];
         let h = key_hash(rows, classes, t);
         let high = (h / 4294967296) as u32;
         let low = (h % 4294967296) as u32;
-        let place = pairs::push(lefts, rights, heads, next, k, high, low);
+        let place = pairs::push(lefts, rights, cells, k, high, low);
         let class = class_of(rows, bindings, classes, list, n, k, place);
         classes[t as usize] = class;
         k += 1;
@@ -217,7 +216,7 @@ fn lowest_of_class(classes: &[u32], n: u32, firsts: &mut [u32], names: &mut [u32
     }
 }
 
-// The name of each of the `n` terms, the lowest term with its value, into `names`. `lefts`, `rights`, `heads`, `next` and
+// The name of each of the `n` terms, the lowest term with its value, into `names`. `lefts`, `rights`, `cells` and
 // `classes` are scratch.
 pub fn names(
     rows: &[u32],
@@ -226,16 +225,15 @@ pub fn names(
     list: &[u32],
     lefts: &mut [u32],
     rights: &mut [u32],
-    heads: &mut [u32],
-    next: &mut [u32],
+    cells: &mut [u32],
     classes: &mut [u32],
     names: &mut [u32],
 )
     requires listed { ⌜ Listed (now rows) (now bindings) (now list) n ⌝ }
-    requires scratch { ⌜ Scratch (now lefts) (now rights) (now heads) (now next) (now classes) n ⌝ }
+    requires scratch { ⌜ Scratch (now lefts) (now rights) (now cells) (now classes) n ⌝ }
     requires names { ⌜ n ≤ length (now names) ⌝ }
     ensures { λ _. ⌜ now (names .exit) ≡ map (name (bookOf (now (rows .entry)) n) (boundOf (now (bindings .entry)) n)) (from 0 n) ++ drop n (now (names .entry)) ⌝ }
 {
-    classify(rows, bindings, list, n, lefts, rights, heads, next, classes);
+    classify(rows, bindings, list, n, lefts, rights, cells, classes);
     lowest_of_class(classes, n, lefts, names);
 }

@@ -124,7 +124,7 @@ pub fn number_classes(
     requires { ⌜ Room m (now met) (now numbers) ⌝ }
     ensures { λ r. ⌜ Numbered (tableOf (now (entries .entry)) m) (now (lines .entry)) (now (met .exit)) (now (numbers .exit)) r ⌝ }
 {
-    order::clear(numbers, m);
+    clearing::clear(numbers, m);
     let mut count = meet_all(entries, m, lines, met, numbers, 0);
     let mut i = 0;
     while i < count {

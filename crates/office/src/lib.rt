@@ -2,6 +2,7 @@
 
 ghost use Rattle.model.specs.Limits.{office};
 ghost use Rattle.calls.specs.Called.{callStep, Called};
+use loaded::CELLS;
 use loaded::PAIRS;
 use loaded::TABLE_WORDS;
 use steps::Stepped;
@@ -17,10 +18,9 @@ pub fn step(area: &mut [u8], fixes: bool, a: u32, b: u32) -> Stepped
     let mut list = [0u32; layout::OFFICE_TERMS];
     let mut roots = [0u32; layout::OFFICE_TERMS];
     let mut names = [0u32; layout::OFFICE_TERMS];
-    let mut heads = [0u32; pairs::BUCKETS];
     let mut lefts = [0u32; PAIRS];
     let mut rights = [0u32; PAIRS];
-    let mut next = [0u32; 2 * PAIRS];
+    let mut cells = [0u32; CELLS];
     calls::step(
         &mut rows,
         &mut bindings,
@@ -33,8 +33,7 @@ pub fn step(area: &mut [u8], fixes: bool, a: u32, b: u32) -> Stepped
         &mut names,
         &mut lefts,
         &mut rights,
-        &mut heads,
-        &mut next,
+        &mut cells,
         fixes,
         a,
         b,

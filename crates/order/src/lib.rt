@@ -3,9 +3,9 @@
 
 ghost use mathlib.Core.Path.{_≡_};
 ghost use mathlib.Core.Bool.{true};
-ghost use mathlib.Core.List.{[], _∷_, _++_};
+ghost use mathlib.Core.List.{[], _∷_};
 ghost use Prim.Native.Nat.{_≤_, _<_};
-ghost use lib.ListN.{length, getD, take, drop, replicate};
+ghost use lib.ListN.{length, getD, take};
 ghost use Rattle.model.specs.Term.{acyclic};
 ghost use Rattle.layout.specs.Rows.{bookOf, boundOf, GoodTerms};
 ghost use Rattle.order.specs.Order.{Ordered};
@@ -118,18 +118,6 @@ fn walk_arguments(
     }
 }
 
-// Clears the first `n` marks.
-pub fn clear(marks: &mut [u32], n: usize)
-    requires { ⌜ n ≤ length (now marks) ⌝ }
-    ensures { λ _. ⌜ now (marks .exit) ≡ replicate n 0 ++ drop n (now (marks .entry)) ⌝ }
-{
-    let mut i = 0;
-    while i < n {
-        marks[i] = 0;
-        i += 1;
-    }
-}
-
 // Whether no value contains itself; then the list has the `n` terms, each behind what its value is made of. The marks are
 // scratch.
 pub fn order(rows: &[u32], bindings: &[u32], n: u32, marks: &mut [u32], list: &mut [u32]) -> bool
@@ -140,7 +128,7 @@ pub fn order(rows: &[u32], bindings: &[u32], n: u32, marks: &mut [u32], list: &m
     ensures { λ r. ⌜ (r ≡ true
         → Ordered (bookOf (now (rows .entry)) n) (boundOf (now (bindings .entry)) n) (take n (now (list .exit)))) ⌝ }
 {
-    clear(marks, n as usize);
+    clearing::clear(marks, n as usize);
     let mut done = 0;
     let mut t = 0;
     while t < n {

@@ -1,13 +1,11 @@
 -- The search down a tree: what is known of the cell that it has come to. Assumes nothing.
 use mathlib.Core.Path.{_≡_, refl, sym, _∙_}
-use mathlib.Core.List.{List, _++_}
+use mathlib.Core.List.{List}
 use Prim.Native.Nat.{ℕ, zero, suc, _+_, _*_, _-_, _/_, _%_, _≤_, _<_}
 use native.Mathlib.Omega.{arith}
-use lib.ListN.{length, getD, List·getD-append}
+use lib.ListN.{getD}
 use Rattle.pairs.specs.Pairs.{placeOf}
-use Rattle.pairs.specs.Index.{buckets, hashOf, bucketOf, wayOf, cellsOf, cellBelow, Leads, here, down, Indexed, LinksKept, Ends, Searched}
-use Rattle.pairs.specs.declared.Found.{Found}
-use Rattle.theory.proofs.Lists.Rows.{getD-behind}
+use Rattle.pairs.specs.Index.{buckets, hashOf, bucketOf, wayOf, cellsOf, cellBelow, Leads, here, down, Indexed, LinksKept, Searched}
 use Rattle.pairs.proofs.Laws.{Holds, place-holds, place-least, place-none}
 
 -- every bucket is one of those that there are
@@ -25,31 +23,30 @@ pub record Sought (ls rs cells : List ℕ) (n a b cell way v : ℕ) : Type 0 whe
   pub joins : (cells′ : List ℕ) → LinksKept cells cells′ (cellsOf n) → Leads cells′ n cell way → Leads cells′ n (bucketOf a b) (wayOf a b)
 
 -- a link goes to one of the first n places
-link-small : {ls rs heads next : List ℕ} {n : ℕ} → Indexed ls rs heads next n → (cell v : ℕ) → cell < cellsOf n
-    → getD (heads ++ next) cell 0 ≡ v → v ≤ n
+link-small : {ls rs cells : List ℕ} {n : ℕ} → Indexed ls rs cells n → (cell v : ℕ) → cell < cellsOf n
+    → getD cells cell 0 ≡ v → v ≤ n
 link-small ix cell zero l e = omega arith
 link-small ix cell (suc p) l e = ix .later cell p l e .0
 
-module _ {ls rs heads next : List ℕ} {n : ℕ} (ix : Indexed ls rs heads next n) {a b : ℕ} where
+module _ {ls rs cells : List ℕ} {n : ℕ} (ix : Indexed ls rs cells n) {a b : ℕ} where
   -- it starts at the head of the pair's bucket, with the whole way
   pub sought-head : (h : ℕ) → h ≡ hashOf a b
-      → Sought ls rs (heads ++ next) n a b (h / 65536 % buckets) (h % 65536 + h / 268435456 * 65536) (getD heads (h / 65536 % buckets) 0)
+      → Sought ls rs cells n a b (h / 65536 % buckets) (h % 65536 + h / 268435456 * 65536) (getD cells (h / 65536 % buckets) 0)
   unfolding bucketOf wayOf
   sought-head h e =
       let low : bucketOf a b < cellsOf n = omega (arith, bucket-low a b) in
-      let is-link = List·getD-append heads next 0 (bucketOf a b) (omega (arith, ix .all-heads, bucket-low a b)) in
       rw e
       (record {
         low = low;
-        is-link = is-link;
-        small = link-small ix _ _ low is-link;
+        is-link = refl;
+        small = link-small ix _ _ low refl;
         onward = ix .leads a b;
         joins = λ cells′ kept l. l;
       })
 
-  module _ {cell way v : ℕ} (s : Sought ls rs (heads ++ next) n a b cell way v) where
+  module _ {cell way v : ℕ} (s : Sought ls rs cells n a b cell way v) where
     -- at a cell without a link the pair is not there
-    leads-on : {p : ℕ} → v ≡ 0 → Leads (heads ++ next) p cell way → ⊥
+    leads-on : {p : ℕ} → v ≡ 0 → Leads cells p cell way → ⊥
     leads-on e (here q) = omega (arith, s .is-link, q)
     leads-on e (down r q l t) = omega (arith, s .is-link, q)
 
@@ -57,7 +54,7 @@ module _ {ls rs heads next : List ℕ} {n : ℕ} (ix : Indexed ls rs heads next 
     none-there e =
         place-none ls rs n a b (λ i l h. leads-on e (s .onward (omega (arith, place-least ls rs n a b i l h))))
 
-    pub sought-none : v ≡ 0 → Searched ls rs heads next n a b (record { place = n; cell = cell })
+    pub sought-none : v ≡ 0 → Searched ls rs cells n a b (record { place = n; cell = cell })
     sought-none e =
         record {
           place = sym (none-there e);
@@ -73,11 +70,11 @@ module _ {ls rs heads next : List ℕ} {n : ℕ} (ix : Indexed ls rs heads next 
     sought-at z = ix .later cell (v - 1) (s .low) (s .is-link ∙ omega arith)
 
     -- where the way leads to a pair that is there, which is at this place or further down
-    found-at : {p : ℕ} → (v ≡ 0 → ⊥) → ((v - 1 < p) → ⊥) → Leads (heads ++ next) p cell way → v - 1 ≡ p
+    found-at : {p : ℕ} → (v ≡ 0 → ⊥) → ((v - 1 < p) → ⊥) → Leads cells p cell way → v - 1 ≡ p
     found-at z g (here q) = omega (arith, s .is-link, q)
     found-at z g (down r q l t) = absurd (g (omega (arith, s .is-link, q)))
 
-    pub sought-found : (v ≡ 0 → ⊥) → Holds ls rs (v - 1) a b → Searched ls rs heads next n a b (record { place = v - 1; cell = cell })
+    pub sought-found : (v ≡ 0 → ⊥) → Holds ls rs (v - 1) a b → Searched ls rs cells n a b (record { place = v - 1; cell = cell })
     sought-found z h =
         let below = sought-at z .0 in
         let least = place-least ls rs n a b (v - 1) below h in
@@ -87,22 +84,21 @@ module _ {ls rs heads next : List ℕ} {n : ℕ} (ix : Indexed ls rs heads next 
         }
 
     -- if this place does not hold the pair, the search goes on at its cell on the way's side
-    further : {p : ℕ} → (v ≡ 0 → ⊥) → (v - 1 ≡ p → ⊥) → Leads (heads ++ next) p cell way → Leads (heads ++ next) p (cellBelow (v - 1) way) (way / 2)
+    further : {p : ℕ} → (v ≡ 0 → ⊥) → (v - 1 ≡ p → ⊥) → Leads cells p cell way → Leads cells p (cellBelow (v - 1) way) (way / 2)
     further z g (here q) = absurd (g (omega (arith, s .is-link, q)))
     further z g (down r q l t) =
         let same : v - 1 ≡ r = omega (arith, s .is-link, q) in
         rw same t
 
     pub sought-next : (v ≡ 0 → ⊥) → (Holds ls rs (v - 1) a b → ⊥)
-        → Sought ls rs (heads ++ next) n a b (cellBelow (v - 1) way) (way / 2) (getD next (2 * (v - 1) + way % 2) 0)
+        → Sought ls rs cells n a b (cellBelow (v - 1) way) (way / 2) (getD cells (cellBelow (v - 1) way) 0)
     sought-next z g =
         let at = sought-at z in
         let low : cellBelow (v - 1) way < cellsOf n = omega arith in
-        let is-link = getD-behind heads next buckets (2 * (v - 1) + way % 2) 0 (ix .all-heads) in
         record {
           low = low;
-          is-link = is-link;
-          small = link-small ix _ _ low is-link;
+          is-link = refl;
+          small = link-small ix _ _ low refl;
           onward = λ h. further z (λ e. g (rw e (place-holds ls rs n a b h))) (s .onward h);
           joins = λ cells′ kept l. s .joins cells′ kept (down (v - 1) (kept cell (v - 1) (s .low) (s .is-link ∙ omega arith)) (at .0) l);
         }

@@ -1,3 +1,4 @@
 pub mod Laws
+pub mod Rooms
 pub mod Descent
 pub mod Growth

@@ -1,9 +1,9 @@
 -- The index of a list of pairs of words: trees of places. Each pair has a bucket with a tree of its own, and goes down it by the bits
 -- of its way. A cell holds a link, which is a place plus 1, or 0 where there is none. Assumes nothing: these are definitions.
 use mathlib.Core.Path.{_≡_}
-use mathlib.Core.List.{List, _++_}
+use mathlib.Core.List.{List}
 use Prim.Native.Nat.{ℕ, suc, _+_, _*_, _/_, _%_, _≤_, _<_}
-use lib.ListN.{length, getD, set, replicate}
+use lib.ListN.{length, getD, set}
 use Rattle.pairs.specs.Pairs.{placeOf}
 use Rattle.pairs.specs.declared.Found.{Found}
 
@@ -29,27 +29,26 @@ abbrev pub cellsOf : ℕ → ℕ
 cellsOf n = buckets + 2 * n
 
 abbrev pub cellBelow : ℕ → ℕ → ℕ
-cellBelow p way = buckets + (2 * p + way % 2)
+cellBelow p way = cellsOf p + way % 2
 
 -- From a cell a way leads to place p: the cell has the link to p, or to a lower place from which the rest of the way leads to p.
 pub data Leads (cells : List ℕ) (p : ℕ) : ℕ → ℕ → Type 0 where
   here : {cell way : ℕ} → getD cells cell 0 ≡ suc p → Leads cells p cell way
   down : {cell way : ℕ} (q : ℕ) → getD cells cell 0 ≡ suc q → q < p → Leads cells p (cellBelow q way) (way / 2) → Leads cells p cell way
 
--- The first n pairs are indexed: there is room for each, a link goes to a place whose own cells come later, and the way of each pair
--- leads from its bucket's head to its first place.
-pub record Indexed (lefts rights heads next : List ℕ) (n : ℕ) : Type 0 where
+-- The slices have room for n pairs and their cells, and a place is a word.
+pub record Room (lefts rights cells : List ℕ) (n : ℕ) : Type 0 where
   pub lefts-fit : n ≤ length lefts
   pub rights-fit : n ≤ length rights
-  pub next-fit : 2 * n ≤ length next
+  pub cells-fit : cellsOf n ≤ length cells
   pub words : length lefts < 4294967296
-  pub all-heads : length heads ≡ buckets
-  pub later : (cell p : ℕ) → cell < cellsOf n → getD (heads ++ next) cell 0 ≡ suc p → (p < n) × (cell < cellsOf p)
-  pub leads : (a b : ℕ) → placeOf lefts rights n a b < n → Leads (heads ++ next) (placeOf lefts rights n a b) (bucketOf a b) (wayOf a b)
 
--- The heads of empty trees.
-unfoldable pub noHeads : List ℕ
-noHeads = replicate buckets 0
+-- The first n pairs are indexed: there is room for them, a link goes to a place whose own cells come later, and the way of each pair
+-- leads from its bucket's head to its first place.
+pub record Indexed (lefts rights cells : List ℕ) (n : ℕ) : Type 0 where
+  pub room : Room lefts rights cells n
+  pub later : (cell p : ℕ) → cell < cellsOf n → getD cells cell 0 ≡ suc p → (p < n) × (cell < cellsOf p)
+  pub leads : (a b : ℕ) → placeOf lefts rights n a b < n → Leads cells (placeOf lefts rights n a b) (bucketOf a b) (wayOf a b)
 
 -- The links in the first m cells of one list stand in the other too.
 abbrev pub LinksKept : List ℕ → List ℕ → ℕ → Type 0
@@ -63,14 +62,14 @@ pub record Ends (cells : List ℕ) (n a b cell : ℕ) : Type 0 where
   pub joins : (cells′ : List ℕ) → LinksKept cells cells′ (cellsOf n) → getD cells′ cell 0 ≡ suc n → Leads cells′ n (bucketOf a b) (wayOf a b)
 
 -- The first place of (a, b) among the first n pairs, or n and the cell at which the search ends.
-pub record Searched (lefts rights heads next : List ℕ) (n a b : ℕ) (r : Found) : Type 0 where
+pub record Searched (lefts rights cells : List ℕ) (n a b : ℕ) (r : Found) : Type 0 where
   pub place : r .place ≡ placeOf lefts rights n a b
-  pub ends : r .place ≡ n → Ends (heads ++ next) n a b (r .cell)
+  pub ends : r .place ≡ n → Ends cells n a b (r .cell)
 
 -- One pair more, (a, b) at place n: the lists after it, which are indexed, and r, the first place of (a, b) in them. It is the
 -- first place that (a, b) had, or n.
-pub record Pushed (lefts rights lefts′ rights′ heads′ next′ : List ℕ) (n a b r : ℕ) : Type 0 where
+pub record Pushed (lefts rights lefts′ rights′ cells′ : List ℕ) (n a b r : ℕ) : Type 0 where
   pub left : lefts′ ≡ set lefts n a
   pub right : rights′ ≡ set rights n b
   pub place : r ≡ placeOf lefts rights n a b
-  pub indexed : Indexed lefts′ rights′ heads′ next′ (suc n)
+  pub indexed : Indexed lefts′ rights′ cells′ (suc n)

@@ -16,6 +16,7 @@ use Rattle.theory.proofs.Table.Place.{Placed, there, appended, place-cases, pla
 use Rattle.layout.specs.Rows.{at}
 use Rattle.pairs.specs.Pairs.{placeOf}
 use Rattle.pairs.specs.Index.{Pushed}
+use Rattle.pairs.proofs.Rooms.{room-kept}
 use Rattle.entry.specs.Row.{rowOf}
 use Rattle.entry.specs.declared.Entry.{Entry}
 use Rattle.kinds.proofs.Names.{SideNames, entryOf-place}
@@ -34,18 +35,18 @@ unfolding rowOf entryWords kindWords padded
 hole-row m l r = refl
 
 -- the table of a capacity has no more entries than that
-pub few-entries : {entries lefts rights heads next : List ℕ} {capacity m : ℕ} {b : Book} {β : Bindings} {es : Table}
-    → Stands entries lefts rights heads next capacity m b β es → m ≤ capacity
+pub few-entries : {entries lefts rights cells : List ℕ} {capacity m : ℕ} {b : Book} {β : Bindings} {es : Table}
+    → Stands entries lefts rights cells capacity m b β es → m ≤ capacity
 few-entries s = omega (arith, s .held .fits, s .long, s .count)
 
 -- so a table that stands in the slices is reached
-pub stands-reaches : {entries lefts rights heads next : List ℕ} {capacity m : ℕ} {b : Book} {β : Bindings} {es : Table}
-    → Stands entries lefts rights heads next capacity m b β es → Reaches entries lefts rights heads next capacity m false b β es
+pub stands-reaches : {entries lefts rights cells : List ℕ} {capacity m : ℕ} {b : Book} {β : Bindings} {es : Table}
+    → Stands entries lefts rights cells capacity m b β es → Reaches entries lefts rights cells capacity m false b β es
 stands-reaches {capacity = capacity} {es = es} s =
     record { is-full = sym (le-ltb capacity (length es) (omega (arith, few-entries s, s .count))); stands = λ x. s }
 
-module _ {names entries lefts rights heads next : List ℕ} {capacity m l r : ℕ} {b : Book} {β : Bindings} {es : Table}
-    (q : ToPlace names entries lefts rights heads next capacity m l r b β es) {f : ℕ}
+module _ {names entries lefts rights cells : List ℕ} {capacity m l r : ℕ} {b : Book} {β : Bindings} {es : Table}
+    (q : ToPlace names entries lefts rights cells capacity m l r b β es) {f : ℕ}
     (e : f ≡ placeOf lefts rights m (at names l) (at names r)) where
   -- the search finds the lowest entry
   found : f ≡ entryOf b β es l r
@@ -56,7 +57,7 @@ module _ {names entries lefts rights heads next : List ℕ} {capacity m l r : �
 
   -- the pair has an entry
   there-at : f < m → Placed b β es l r
-      → IsPlaced entries lefts rights heads next capacity l r (record { entry = f; count = m; full = false }) b β es
+      → IsPlaced entries lefts rights cells capacity l r (record { entry = f; count = m; full = false }) b β es
   there-at h (there o p) =
       record {
         reaches = rw p (stands-reaches (q .stands));
@@ -64,13 +65,13 @@ module _ {names entries lefts rights heads next : List ℕ} {capacity m l r : �
       }
   there-at h (appended o p) = absurd (omega (arith, found, q .stands .count))
 
-  pub place-there : f < m → IsPlaced entries lefts rights heads next capacity l r (record { entry = f; count = m; full = false }) b β es
+  pub place-there : f < m → IsPlaced entries lefts rights cells capacity l r (record { entry = f; count = m; full = false }) b β es
   place-there h = there-at h (place-cases b β es l r)
 
   module _ (h : m ≤ f) where
     -- it would need an entry beyond the capacity
     full-at : capacity ≤ m → Placed b β es l r
-        → IsPlaced entries lefts rights heads next capacity l r (record { entry = 0; count = m; full = true }) b β es
+        → IsPlaced entries lefts rights cells capacity l r (record { entry = 0; count = m; full = true }) b β es
     full-at g (there o p) = absurd (omega (arith, found, q .stands .count))
     full-at g (appended o p) =
         record {
@@ -82,21 +83,21 @@ module _ {names entries lefts rights heads next : List ℕ} {capacity m l r : �
           its-entry = λ x. absurd (true≢false x);
         }
 
-    pub place-full : capacity ≤ m → IsPlaced entries lefts rights heads next capacity l r (record { entry = 0; count = m; full = true }) b β es
+    pub place-full : capacity ≤ m → IsPlaced entries lefts rights cells capacity l r (record { entry = 0; count = m; full = true }) b β es
     place-full g = full-at g (place-cases b β es l r)
 
     -- it is appended
-    module _ (g : m < capacity) {entries′ lefts′ rights′ heads′ next′ : List ℕ} {k : ℕ}
+    module _ (g : m < capacity) {entries′ lefts′ rights′ cells′ : List ℕ} {k : ℕ}
         (put : entries′ ≡ paste entries (entryRowWords * m) (rowOf (holeOf m l r)) entryRowWords)
-        (pushed : Pushed lefts rights lefts′ rights′ heads′ next′ m (at names l) (at names r) k)
-        (size : length entries′ ≡ length entries) (next-size : length next′ ≡ length next) where
+        (pushed : Pushed lefts rights lefts′ rights′ cells′ m (at names l) (at names r) k)
+        (size : length entries′ ≡ length entries) (cells-size : length cells′ ≡ length cells) where
       new-held : HoldsTable entries′ (es ++ holeAt (length es) l r ∷ [])
       unfolding entryWords kindWords padded
       new-held =
           let s = q .stands in
           rw (put, hole-row, s .count) (held-more (s .held) (holeAt (length es) l r) refl (omega (arith, s .long, s .count)))
 
-      new-stands : Stands entries′ lefts′ rights′ heads′ next′ capacity (m + 1) b β (es ++ holeAt (length es) l r ∷ [])
+      new-stands : Stands entries′ lefts′ rights′ cells′ capacity (m + 1) b β (es ++ holeAt (length es) l r ∷ [])
       new-stands =
           let s = q .stands in
           let left : length lefts′ ≡ length lefts = ap length (pushed .left) ∙ length-set lefts m _ in
@@ -108,20 +109,13 @@ module _ {names entries lefts rights heads next : List ℕ} {capacity m l r : �
             count = rw length-append (omega (arith, s .count));
             held = new-held;
             long = size ∙ s .long;
-            room =
-                record {
-                  lefts-fit = rw left (s .room .lefts-fit);
-                  rights-fit = rw right (s .room .rights-fit);
-                  next-fit = rw next-size (s .room .next-fit);
-                  words = rw left (s .room .words);
-                  all-heads = pushed .indexed .all-heads;
-                };
+            room = room-kept (s .room) left right cells-size;
             indexed = rw add-one (pushed .indexed);
             names = new-names;
           }
 
       hole-at : Placed b β es l r
-          → IsPlaced entries′ lefts′ rights′ heads′ next′ capacity l r (record { entry = m; count = m + 1; full = false }) b β es
+          → IsPlaced entries′ lefts′ rights′ cells′ capacity l r (record { entry = m; count = m + 1; full = false }) b β es
       hole-at (there o p) = absurd (omega (arith, found, q .stands .count))
       hole-at (appended o p) =
           record {
@@ -129,5 +123,5 @@ module _ {names entries lefts rights heads next : List ℕ} {capacity m l r : �
             its-entry = λ x. q .stands .count ∙ sym (place-found b β es l r (place-cases b β es l r) .0 ∙ o);
           }
 
-      pub place-hole : IsPlaced entries′ lefts′ rights′ heads′ next′ capacity l r (record { entry = m; count = m + 1; full = false }) b β es
+      pub place-hole : IsPlaced entries′ lefts′ rights′ cells′ capacity l r (record { entry = m; count = m + 1; full = false }) b β es
       place-hole = hole-at (place-cases b β es l r)

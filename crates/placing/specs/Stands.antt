@@ -11,7 +11,8 @@ use Rattle.model.specs.Term.{Book, Bindings}
 use Rattle.model.specs.Table.{Table, entry}
 use Rattle.model.specs.Area.{entryRowWords, entryWords}
 use Rattle.pairs.specs.Index.{Indexed}
-use Rattle.kinds.specs.Known.{Named, Known, Room}
+use Rattle.kinds.specs.Known.{Named, Known}
+use Rattle.pairs.specs.Index.{Room}
 use Rattle.kinds.proofs.Names.{SideNames}
 
 -- Rows that hold a table: the rows of its entries, each of one width, and zeros behind them.
@@ -28,19 +29,19 @@ abbrev pub KnownTerms : List ℕ → List ℕ → List ℕ → Book → Bindings
 KnownTerms rows roots names b β = Known b β rows roots names [] 0
 
 -- A table of m entries stands in the slices: the rows of the capacity hold it, and the names of its sides are indexed.
-pub record Stands (entries lefts rights heads next : List ℕ) (capacity m : ℕ) (b : Book) (β : Bindings) (es : Table) : Type 0 where
+pub record Stands (entries lefts rights cells : List ℕ) (capacity m : ℕ) (b : Book) (β : Bindings) (es : Table) : Type 0 where
   pub count : m ≡ length es
   pub held : HoldsTable entries es
   pub long : length entries ≡ entryRowWords * capacity
-  pub room : Room lefts rights heads next capacity
-  pub indexed : Indexed lefts rights heads next m
+  pub room : Room lefts rights cells capacity
+  pub indexed : Indexed lefts rights cells m
   pub names : SideNames b β es lefts rights
 
 -- A step of the table leads to this one: it is full exactly where that needs more entries than the capacity, and where it is not
 -- full this table stands in the slices.
-pub record Reaches (entries lefts rights heads next : List ℕ) (capacity m : ℕ) (full : Bool) (b : Book) (β : Bindings) (es : Table) : Type 0 where
+pub record Reaches (entries lefts rights cells : List ℕ) (capacity m : ℕ) (full : Bool) (b : Book) (β : Bindings) (es : Table) : Type 0 where
   pub is-full : full ≡ ltb capacity (length es)
-  pub stands : full ≡ false → Stands entries lefts rights heads next capacity m b β es
+  pub stands : full ≡ false → Stands entries lefts rights cells capacity m b β es
 
 -- Something is known of some book, bindings and table.
 pub record GivenTable (P : Book → Bindings → Table → Type 0) : Type 0 where

@@ -11,13 +11,13 @@ use Rattle.placing.specs.Stands.{KnownNames, Stands, Reaches}
 use Rattle.placing.specs.declared.Placed.{Placed}
 
 -- A pair of terms to be placed in a table of m entries.
-pub record ToPlace (names entries lefts rights heads next : List ℕ) (capacity m l r : ℕ) (b : Book) (β : Bindings) (es : Table) : Type 0 where
+pub record ToPlace (names entries lefts rights cells : List ℕ) (capacity m l r : ℕ) (b : Book) (β : Bindings) (es : Table) : Type 0 where
   pub known : KnownNames names b β
-  pub stands : Stands entries lefts rights heads next capacity m b β es
+  pub stands : Stands entries lefts rights cells capacity m b β es
   pub left-term : l < length b
   pub right-term : r < length b
 
 -- It is placed, and has its entry.
-pub record IsPlaced (entries lefts rights heads next : List ℕ) (capacity l r : ℕ) (p : Placed) (b : Book) (β : Bindings) (es : Table) : Type 0 where
-  pub reaches : Reaches entries lefts rights heads next capacity (p .count) (p .full) b β (place b β es l r)
+pub record IsPlaced (entries lefts rights cells : List ℕ) (capacity l r : ℕ) (p : Placed) (b : Book) (β : Bindings) (es : Table) : Type 0 where
+  pub reaches : Reaches entries lefts rights cells capacity (p .count) (p .full) b β (place b β es l r)
   pub its-entry : p .full ≡ false → p .entry ≡ entryOf b β (place b β es l r) l r

@@ -1,6 +1,6 @@
 // Placing a pair in a pair table in slices (specs/Stands.antt, specs/Steps.antt; document 01, "The pair table"). `entries` has a row
 // for each entry of the capacity, of which the first `m` hold the table. `lefts` and `rights` hold the names of the two sides of
-// each entry, indexed by `heads` and `next`.
+// each entry, indexed by `cells`.
 
 ghost use Rattle.placing.specs.Stands.{GivenTable, Whatever};
 ghost use Rattle.placing.specs.Steps.{ToPlace, IsPlaced};
@@ -24,16 +24,15 @@ pub fn place(
     r: u32,
     lefts: &mut [u32],
     rights: &mut [u32],
-    heads: &mut [u32],
-    next: &mut [u32],
+    cells: &mut [u32],
 ) -> Placed
-    requires { ⌜ GivenTable (ToPlace (now names) (now entries) (now lefts) (now rights) (now heads) (now next) capacity m l r) ⌝ }
-    ensures { λ p. ⌜ Whatever (ToPlace (now (names .entry)) (now (entries .entry)) (now (lefts .entry)) (now (rights .entry)) (now (heads .entry)) (now (next .entry)) capacity m l r)
-        (IsPlaced (now (entries .exit)) (now (lefts .exit)) (now (rights .exit)) (now (heads .exit)) (now (next .exit)) capacity l r p) ⌝ }
+    requires { ⌜ GivenTable (ToPlace (now names) (now entries) (now lefts) (now rights) (now cells) capacity m l r) ⌝ }
+    ensures { λ p. ⌜ Whatever (ToPlace (now (names .entry)) (now (entries .entry)) (now (lefts .entry)) (now (rights .entry)) (now (cells .entry)) capacity m l r)
+        (IsPlaced (now (entries .exit)) (now (lefts .exit)) (now (rights .exit)) (now (cells .exit)) capacity l r p) ⌝ }
 {
     let left = names[l as usize];
     let right = names[r as usize];
-    let found = pairs::find(lefts, rights, heads, next, m, left, right);
+    let found = pairs::find(lefts, rights, cells, m, left, right);
     if found < m {
         return Placed {
             entry: found as u32,
@@ -58,7 +57,7 @@ pub fn place(
         same_as: m as u32,
     };
     entry::put_entry(entries, m, hole);
-    pairs::push(lefts, rights, heads, next, m, left, right);
+    pairs::push(lefts, rights, cells, m, left, right);
     Placed {
         entry: m as u32,
         count: m + 1,

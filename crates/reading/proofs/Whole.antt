@@ -2,7 +2,7 @@
 use mathlib.Core.Path.{_≡_, sym, ap, _∙_}
 use mathlib.Core.List.{List, [], _∷_}
 use mathlib.Core.Bool.{Bool, true}
-use Prim.Native.Nat.{ℕ, zero, suc, _≤_, _<_}
+use Prim.Native.Nat.{ℕ, zero, suc, _<_}
 use native.Mathlib.Omega.{arith}
 use lib.ListN.{getD}
 use lib.Dec.{T, ltb, lt→ltb}
@@ -21,13 +21,13 @@ use Rattle.sound.specs.Sound.{loaded, headerOk, rowsOk, tableOk, soundLoaded}
 use Rattle.sound.proofs.Tests.{header-facts}
 use Rattle.sound.proofs.Words.{loaded-sized}
 use Rattle.sound.proofs.Theorems.{sound-by-parts, state-by-parts}
-use Rattle.kinds.specs.Known as Known
+use Rattle.pairs.specs.Index as Pairs
 use Rattle.area.specs.Held.{held}
 use Rattle.state.specs.Loading.{Words, Used}
 use Rattle.valued.specs.Valued.{Valued, Room}
 use Rattle.state.specs.Ready.{Lent, Read}
 use Rattle.valued.proofs.Rooms.{fewer-terms}
-use Rattle.state.proofs.Rooms.{fewer-entries}
+use Rattle.pairs.proofs.Rooms.{room-fewer}
 
 -- The header's numbers are the first words of the area.
 abbrev pub HeaderOf : List ℕ → Header → Type 0
@@ -48,14 +48,14 @@ rows-tested w t =
 
 module _ (lim : Limits) (area : List ℕ) (ok : T (headerOk lim area)) (h : Header) (head : HeaderOf area h) where
   -- the room that is lent is enough for the state of an area whose header is in order
-  module _ {list roots names lefts rights heads next : List ℕ} (lent : Lent lim list roots names lefts rights heads next) where
-    pub room-terms : Room list roots names lefts rights heads next (h .terms)
+  module _ {list roots names lefts rights cells : List ℕ} (lent : Lent lim list roots names lefts rights cells) where
+    pub room-terms : Room list roots names lefts rights cells (h .terms)
     room-terms = fewer-terms (rw (head .1) (header-facts lim area .0 ok .few-terms)) (lent .for-terms)
 
-    pub room-entries : Known.Room lefts rights heads next (h .entries)
+    pub room-entries : Pairs.Room lefts rights cells (h .entries)
     room-entries =
         let f = header-facts lim area .0 ok in
-        fewer-entries (rw (head .2) (omega (arith, f .few-entries, f .capacity-fits))) (lent .for-entries)
+        room-fewer (rw (head .2) (omega (arith, f .few-entries, f .capacity-fits))) (lent .for-entries)
 
   module _ {rows bindings lines entries : List ℕ} (words : Words (loaded lim area) rows bindings lines entries) where
     -- the loaded state is that of the header and the slices

@@ -14,7 +14,7 @@ ghost use Rattle.state.specs.Ready.{Lent, Read};
 use layout::Limits;
 
 // Whether an area of any length and any bytes is sound; then the slices hold the words of its state, those of the entries at the
-// front of theirs, the list of its terms, what each stands for and its name. `ls`, `rs`, `heads` and `next` are scratch.
+// front of theirs, the list of its terms, what each stands for and its name. `ls`, `rs` and `cells` are scratch.
 pub fn sound(
     rows: &mut [u32],
     bindings: &mut [u32],
@@ -27,12 +27,11 @@ pub fn sound(
     area: &[u8],
     ls: &mut [u32],
     rs: &mut [u32],
-    heads: &mut [u32],
-    next: &mut [u32],
+    cells: &mut [u32],
 ) -> bool
     requires modest { ⌜ Modest (limitsOf lim) ⌝ }
     requires sizes { ⌜ Sizes (limitsOf lim) (lim .capacity) (now rows) (now bindings) (now lines) (now entries) ⌝ }
-    requires lent { ⌜ Lent (limitsOf lim) (now list) (now roots) (now names) (now ls) (now rs) (now heads) (now next) ⌝ }
+    requires lent { ⌜ Lent (limitsOf lim) (now list) (now roots) (now names) (now ls) (now rs) (now cells) ⌝ }
     ensures sound { λ r. ⌜ r ≡ Area.sound (limitsOf lim) (now (area .entry)) ⌝ }
     ensures read { λ r. ⌜ (r ≡ true → Read (limitsOf lim) (now (area .entry))
         (held (headerOf (now (area .entry))) (now (rows .exit)) (now (bindings .exit)) (now (lines .exit)) (take (entryRowWords * word (now (area .entry)) 0) (now (entries .exit))))
@@ -49,9 +48,9 @@ pub fn sound(
         return false;
     }
     let n = h.terms;
-    if !valued::name_terms(n, list, bindings, roots, names, ls, rows, rs, heads, next) {
+    if !valued::name_terms(n, list, bindings, roots, names, ls, rows, rs, cells) {
         return false;
     }
     let m = h.entries as usize;
-    entries::table_ok(ls, rs, heads, next, rows, roots, names, table, m)
+    entries::table_ok(ls, rs, cells, rows, roots, names, table, m)
 }

@@ -10,20 +10,20 @@ use Rattle.model.specs.Term.{acyclic}
 use Rattle.layout.specs.Rows.{bookOf, boundOf, tableOf}
 use Rattle.layout.proofs.Rows.{length-bookOf, length-tableOf}
 use Rattle.area.specs.declared.Header.{Header}
-use Rattle.kinds.specs.Known.{Room}
-use Rattle.kinds.proofs.Room.{room-kept}
+use Rattle.pairs.specs.Index.{Room}
+use Rattle.pairs.proofs.Rooms.{room-kept}
 use Rattle.valued.specs.Valued.{Valued}
 use Rattle.placing.specs.Stands.{Whatever}
 use Rattle.table.proofs.Sizes.{SameSizes}
 use Rattle.indexing.specs.Indexing.{ToIndex, IsIndexed}
 use Rattle.indexing.proofs.Standing.{indexed-stands}
 use Rattle.saturate.specs.Steps.{ToWalk}
-use Rattle.state.proofs.Rooms.{fewer-entries}
+use Rattle.pairs.proofs.Rooms.{room-fewer}
 use Rattle.steps.proofs.Tables.{valued-names, valued-known}
 use Rattle.rebuilding.specs.Rebuilding.{ToRebuild}
 
-module _ {h : Header} {rows bindings list roots names entries lefts rights heads next : List ℕ}
-    (r : ToRebuild h rows bindings list roots names entries lefts rights heads next) where
+module _ {h : Header} {rows bindings list roots names entries lefts rights cells : List ℕ}
+    (r : ToRebuild h rows bindings list roots names entries lefts rights cells) where
   -- no value contains itself, so no test says that one does
   pub never-refused : {x : Bool} → x ≡ acyclic (bookOf rows (h .terms)) (boundOf bindings (h .terms)) → not x ≡ true → ⊥
   never-refused e n = rw (sym e ∙ not-true _ n) at (r .no-cycle)
@@ -33,12 +33,12 @@ module _ {h : Header} {rows bindings list roots names entries lefts rights heads
   few = omega (arith, r .table .fits, r .long, length-tableOf entries (h .entries))
 
   -- The terms are named, in scratch that is as long as it was.
-  module _ {list′ roots′ names′ lefts′ rights′ heads′ next′ : List ℕ} (v : Valued rows bindings list′ roots′ names′ (h .terms))
-      (left : length lefts′ ≡ length lefts) (right : length rights′ ≡ length rights) (head : length heads′ ≡ length heads) (link : length next′ ≡ length next) where
-    room : Room lefts′ rights′ heads′ next′ (h .capacity)
-    room = room-kept (r .for-entries) left right head link
+  module _ {list′ roots′ names′ lefts′ rights′ cells′ : List ℕ} (v : Valued rows bindings list′ roots′ names′ (h .terms))
+      (left : length lefts′ ≡ length lefts) (right : length rights′ ≡ length rights) (cell : length cells′ ≡ length cells) where
+    room : Room lefts′ rights′ cells′ (h .capacity)
+    room = room-kept (r .for-entries) left right cell
 
-    pub to-index : ToIndex names′ entries lefts′ rights′ heads′ next′ (h .entries) (bookOf rows (h .terms)) (boundOf bindings (h .terms)) (tableOf entries (h .entries))
+    pub to-index : ToIndex names′ entries lefts′ rights′ cells′ (h .entries) (bookOf rows (h .terms)) (boundOf bindings (h .terms)) (tableOf entries (h .entries))
     to-index =
         record {
           known = valued-names v;
@@ -46,12 +46,12 @@ module _ {h : Header} {rows bindings list roots names entries lefts rights heads
           held = r .table;
           left-term = rw (length-tableOf, length-bookOf) (r .left-term);
           right-term = rw (length-tableOf, length-bookOf) (r .right-term);
-          room = fewer-entries few room;
+          room = room-fewer few room;
         }
 
-    pub to-walk : {lefts″ rights″ heads″ next″ : List ℕ} → SameSizes entries lefts′ rights′ heads′ next′ entries lefts″ rights″ heads″ next″
-        → Whatever (ToIndex names′ entries lefts′ rights′ heads′ next′ (h .entries)) (IsIndexed lefts″ rights″ heads″ next″ (h .entries))
-        → ToWalk rows roots′ names′ entries lefts″ rights″ heads″ next″ (h .capacity) (h .entries)
+    pub to-walk : {lefts″ rights″ cells″ : List ℕ} → SameSizes entries lefts′ rights′ cells′ entries lefts″ rights″ cells″
+        → Whatever (ToIndex names′ entries lefts′ rights′ cells′ (h .entries)) (IsIndexed lefts″ rights″ cells″ (h .entries))
+        → ToWalk rows roots′ names′ entries lefts″ rights″ cells″ (h .capacity) (h .entries)
         (bookOf rows (h .terms)) (boundOf bindings (h .terms)) (tableOf entries (h .entries))
     to-walk sizes indexed =
         record { known = valued-known v; stands = indexed-stands to-index (indexed _ _ _ to-index) (r .long) room sizes }

@@ -10,18 +10,18 @@ use Rattle.model.specs.Table.{entry}
 use Rattle.model.specs.Area.{entryRowWords}
 use Rattle.layout.specs.Rows.{bookOf, boundOf, tableOf, GoodTerms}
 use Rattle.area.specs.declared.Header.{Header}
-use Rattle.kinds.specs.Known as Known
+use Rattle.pairs.specs.Index as Pairs
 use Rattle.valued.specs.Valued.{Room}
 use Rattle.placing.specs.Stands.{HoldsTable}
 
 -- Rows and words whose values do not contain themselves, and a table over their terms; its same-as and kinds may be those of other
 -- bindings.
-pub record ToRebuild (h : Header) (rows bindings list roots names entries lefts rights heads next : List ℕ) : Type 0 where
+pub record ToRebuild (h : Header) (rows bindings list roots names entries lefts rights cells : List ℕ) : Type 0 where
   pub good : GoodTerms rows bindings (h .terms)
   pub no-cycle : T (acyclic (bookOf rows (h .terms)) (boundOf bindings (h .terms)))
   pub table : HoldsTable entries (tableOf entries (h .entries))
   pub left-term : (i : ℕ) → i < h .entries → entry (tableOf entries (h .entries)) i .left < h .terms
   pub right-term : (i : ℕ) → i < h .entries → entry (tableOf entries (h .entries)) i .right < h .terms
   pub long : length entries ≡ entryRowWords * h .capacity
-  pub for-terms : Room list roots names lefts rights heads next (h .terms)
-  pub for-entries : Known.Room lefts rights heads next (h .capacity)
+  pub for-terms : Room list roots names lefts rights cells (h .terms)
+  pub for-entries : Pairs.Room lefts rights cells (h .capacity)

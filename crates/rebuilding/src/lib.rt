@@ -18,17 +18,16 @@ pub fn rebuild(
     es: &mut [u32],
     ls: &mut [u32],
     rs: &mut [u32],
-    hs: &mut [u32],
-    ns: &mut [u32],
+    cs: &mut [u32],
 ) -> Stepped
-    requires { ⌜ ToRebuild h (now rows) (now bindings) (now list) (now roots) (now names) (now es) (now ls) (now rs) (now hs) (now ns) ⌝ }
+    requires { ⌜ ToRebuild h (now rows) (now bindings) (now list) (now roots) (now names) (now es) (now ls) (now rs) (now cs) ⌝ }
     ensures { λ s. ⌜ IsSettled h (now (es .exit)) s (bookOf (now (rows .entry)) (h .terms)) (boundOf (now (bindings .entry)) (h .terms)) (tableOf (now (es .entry)) (h .entries)) ⌝ }
 {
     let n = h.terms;
-    if !valued::name_terms(n, list, bindings, roots, names, ls, rows, rs, hs, ns) {
+    if !valued::name_terms(n, list, bindings, roots, names, ls, rows, rs, cs) {
         return steps::refused(10);
     }
     let m = h.entries as usize;
-    indexing::index(names, es, ls, rs, hs, ns, m);
-    settling::walk_and_settle(h, rows, roots, names, es, ls, rs, hs, ns)
+    indexing::index(names, es, ls, rs, cs, m);
+    settling::walk_and_settle(h, rows, roots, names, es, ls, rs, cs)
 }

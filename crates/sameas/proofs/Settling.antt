@@ -68,16 +68,16 @@ module _ (new old : Table) (size : length new ≡ length old) (i : ℕ) (l : i <
       (sym (append-assoc (take i new) (entry new i ∷ []) (drop (suc i) old)))
 
 -- What holds at the loop's head.
-pub record Settling (entries₀ lefts rights heads next : List ℕ) (m : ℕ) (entries : List ℕ) (i : ℕ) : Type 0 where
+pub record Settling (entries₀ lefts rights cells : List ℕ) (m : ℕ) (entries : List ℕ) (i : ℕ) : Type 0 where
   pub size : length entries ≡ length entries₀
-  pub so-far : Whatever (ToSettle entries₀ lefts rights heads next m) (λ b β es. HoldsTable entries (mixed i (settle b β es) es))
+  pub so-far : Whatever (ToSettle entries₀ lefts rights cells m) (λ b β es. HoldsTable entries (mixed i (settle b β es) es))
 
-pub settling-none : (entries lefts rights heads next : List ℕ) (m : ℕ) → Settling entries lefts rights heads next m entries 0
-settling-none entries lefts rights heads next m = record { size = refl; so-far = λ b β es q. q .held }
+pub settling-none : (entries lefts rights cells : List ℕ) (m : ℕ) → Settling entries lefts rights cells m entries 0
+settling-none entries lefts rights cells m = record { size = refl; so-far = λ b β es q. q .held }
 
 -- the search finds same-as
-module _ {entries₀ lefts rights heads next : List ℕ} {m : ℕ} {b : Book} {β : Bindings} {es : Table}
-    (q : ToSettle entries₀ lefts rights heads next m b β es) {i f : ℕ} (t : i < m)
+module _ {entries₀ lefts rights cells : List ℕ} {m : ℕ} {b : Book} {β : Bindings} {es : Table}
+    (q : ToSettle entries₀ lefts rights cells m b β es) {i f : ℕ} (t : i < m)
     (found : f ≡ placeOf lefts rights m (at lefts i) (at rights i)) where
   same-as : f ≡ entryOf b β es (entry es i .left) (entry es i .right)
   same-as =
@@ -89,14 +89,14 @@ module _ {entries₀ lefts rights heads next : List ℕ} {m : ℕ} {b : Book} {�
   pub same-as-word : f < 4294967296
   same-as-word =
       let indexed = q .is-indexed .indexed in
-      omega (arith, same-as, entryOf-le b β es (entry es i .left) (entry es i .right), q .count, indexed .lefts-fit, indexed .words)
+      omega (arith, same-as, entryOf-le b β es (entry es i .left) (entry es i .right), q .count, indexed .room .lefts-fit, indexed .room .words)
 
-module _ {entries₀ lefts rights heads next : List ℕ} {m : ℕ} {entries : List ℕ} {i : ℕ} (h : Settling entries₀ lefts rights heads next m entries i) where
+module _ {entries₀ lefts rights cells : List ℕ} {m : ℕ} {entries : List ℕ} {i : ℕ} (h : Settling entries₀ lefts rights cells m entries i) where
   -- one entry more
   module _ (t : i < m) {f : ℕ} (found : f ≡ placeOf lefts rights m (at lefts i) (at rights i)) (e : Row)
       (read : rowOf e ≡ take entryRowWords (drop (entryRowWords * i) entries)) {entries′ : List ℕ}
       (put : entries′ ≡ paste entries (entryRowWords * i) (rowOf (resameRow e f)) entryRowWords) where
-    settled-more : (b : Book) (β : Bindings) (es : Table) → ToSettle entries₀ lefts rights heads next m b β es
+    settled-more : (b : Book) (β : Bindings) (es : Table) → ToSettle entries₀ lefts rights cells m b β es
         → HoldsTable entries′ (mixed (i + 1) (settle b β es) es)
     settled-more b β es q =
         let l : i < length es = omega (arith, q .count) in
@@ -111,11 +111,11 @@ module _ {entries₀ lefts rights heads next : List ℕ} {m : ℕ} {entries : Li
         rw (put, resame-row e (entry es i) f wide is-entry, ← mixed-set new es size i l, new-entry)
         (held-set held (resame (entry es i) f) (resame-wide e (entry es i) f wide) i there)
 
-    pub settling-more : length entries′ ≡ length entries → Settling entries₀ lefts rights heads next m entries′ (i + 1)
+    pub settling-more : length entries′ ≡ length entries → Settling entries₀ lefts rights cells m entries′ (i + 1)
     settling-more size = record { size = size ∙ h .size; so-far = settled-more }
 
   -- all entries have it
-  pub settling-all : m ≤ i → Whatever (ToSettle entries₀ lefts rights heads next m) (λ b β es. HoldsTable entries (settle b β es))
+  pub settling-all : m ≤ i → Whatever (ToSettle entries₀ lefts rights cells m) (λ b β es. HoldsTable entries (settle b β es))
   settling-all l b β es q =
       let all-new : take i (settle b β es) ≡ settle b β es = take-all i (settle b β es) (omega (arith, length-settle b β es, q .count)) in
       let over : length es ≤ i = omega (arith, q .count) in

@@ -9,7 +9,7 @@ use Rattle.placing.specs.Stands.{HoldsTable}
 use Rattle.indexing.specs.Indexing.{IsIndexed}
 
 -- An indexed table of m entries whose same-as is to be set.
-pub record ToSettle (entries lefts rights heads next : List ℕ) (m : ℕ) (b : Book) (β : Bindings) (es : Table) : Type 0 where
+pub record ToSettle (entries lefts rights cells : List ℕ) (m : ℕ) (b : Book) (β : Bindings) (es : Table) : Type 0 where
   pub count : m ≡ length es
   pub held : HoldsTable entries es
-  pub is-indexed : IsIndexed lefts rights heads next m b β es
+  pub is-indexed : IsIndexed lefts rights cells m b β es

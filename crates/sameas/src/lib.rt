@@ -6,21 +6,14 @@ ghost use Rattle.placing.specs.Stands.{HoldsTable, GivenTable, Whatever};
 ghost use Rattle.sameas.specs.Settling.{ToSettle};
 
 // Sets same-as of the `m` entries: of each, the first entry with its two names.
-pub fn settle(
-    entries: &mut [u32],
-    m: usize,
-    lefts: &[u32],
-    rights: &[u32],
-    heads: &[u32],
-    next: &[u32],
-)
-    requires { ⌜ GivenTable (ToSettle (now entries) (now lefts) (now rights) (now heads) (now next) m) ⌝ }
-    ensures { λ _. ⌜ Whatever (ToSettle (now (entries .entry)) (now (lefts .entry)) (now (rights .entry)) (now (heads .entry)) (now (next .entry)) m)
+pub fn settle(entries: &mut [u32], m: usize, lefts: &[u32], rights: &[u32], cells: &[u32])
+    requires { ⌜ GivenTable (ToSettle (now entries) (now lefts) (now rights) (now cells) m) ⌝ }
+    ensures { λ _. ⌜ Whatever (ToSettle (now (entries .entry)) (now (lefts .entry)) (now (rights .entry)) (now (cells .entry)) m)
         (λ b β es. HoldsTable (now (entries .exit)) (settle b β es)) ⌝ }
 {
     let mut i = 0;
     while i < m {
-        let found = pairs::find(lefts, rights, heads, next, m, lefts[i], rights[i]);
+        let found = pairs::find(lefts, rights, cells, m, lefts[i], rights[i]);
         let mut e = entry::entry_at(entries, i);
         e.same_as = found as u32;
         entry::put_entry(entries, i, e);

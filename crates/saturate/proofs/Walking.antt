@@ -77,61 +77,61 @@ module _ (b : Book) (β : Bindings) where
         ]
 
 -- After i visits.
-pub record WalkedTo (entries lefts rights heads next : List ℕ) (capacity t count i : ℕ) (b : Book) (β : Bindings) (es : Table) : Type 0 where
-  pub stands : Stands entries lefts rights heads next capacity count b β (walk b β i 0 es)
+pub record WalkedTo (entries lefts rights cells : List ℕ) (capacity t count i : ℕ) (b : Book) (β : Bindings) (es : Table) : Type 0 where
+  pub stands : Stands entries lefts rights cells capacity count b β (walk b β i 0 es)
   pub within : i ≤ count
   pub ahead : (j : ℕ) → i ≤ j → j < length es → entry (walk b β i 0 es) j ≡ entry es j
   pub old-turned : t ≡ turned es (walk b β i 0 es)
 
 -- What holds at the loop's head.
-pub record Walking (rows roots names entries₀ lefts₀ rights₀ heads₀ next₀ : List ℕ) (capacity m : ℕ)
-    (entries lefts rights heads next : List ℕ) (w : Answer) (i : ℕ) : Type 0 where
-  pub sizes : SameSizes entries₀ lefts₀ rights₀ heads₀ next₀ entries lefts rights heads next
+pub record Walking (rows roots names entries₀ lefts₀ rights₀ cells₀ : List ℕ) (capacity m : ℕ)
+    (entries lefts rights cells : List ℕ) (w : Answer) (i : ℕ) : Type 0 where
+  pub sizes : SameSizes entries₀ lefts₀ rights₀ cells₀ entries lefts rights cells
   pub few : w .turned ≤ i
   pub not-full : w .full ≡ false
-  pub so-far : Whatever (ToWalk rows roots names entries₀ lefts₀ rights₀ heads₀ next₀ capacity m)
-      (WalkedTo entries lefts rights heads next capacity (w .turned) (w .count) i)
+  pub so-far : Whatever (ToWalk rows roots names entries₀ lefts₀ rights₀ cells₀ capacity m)
+      (WalkedTo entries lefts rights cells capacity (w .turned) (w .count) i)
 
-pub walking-none : (rows roots names entries lefts rights heads next : List ℕ) (capacity m : ℕ)
-    → Walking rows roots names entries lefts rights heads next capacity m entries lefts rights heads next (record { turned = 0; count = m; full = false }) 0
+pub walking-none : (rows roots names entries lefts rights cells : List ℕ) (capacity m : ℕ)
+    → Walking rows roots names entries lefts rights cells capacity m entries lefts rights cells (record { turned = 0; count = m; full = false }) 0
 unfolding walk
-walking-none rows roots names entries lefts rights heads next capacity m =
+walking-none rows roots names entries lefts rights cells capacity m =
     record {
-      sizes = same-sizes entries lefts rights heads next;
+      sizes = same-sizes entries lefts rights cells;
       few = omega arith;
       not-full = refl;
       so-far = λ b β es q.
           record { stands = q .stands; within = omega arith; ahead = λ j l k. refl; old-turned = sym (turned-none es) };
     }
 
-module _ {rows roots names entries₀ lefts₀ rights₀ heads₀ next₀ : List ℕ} {capacity m : ℕ} {entries lefts rights heads next : List ℕ} {w : Answer} {i : ℕ}
-    (h : Walking rows roots names entries₀ lefts₀ rights₀ heads₀ next₀ capacity m entries lefts rights heads next w i) where
+module _ {rows roots names entries₀ lefts₀ rights₀ cells₀ : List ℕ} {capacity m : ℕ} {entries lefts rights cells : List ℕ} {w : Answer} {i : ℕ}
+    (h : Walking rows roots names entries₀ lefts₀ rights₀ cells₀ capacity m entries lefts rights cells w i) where
   -- the table is within the capacity
-  pub count-few : GivenTable (ToWalk rows roots names entries₀ lefts₀ rights₀ heads₀ next₀ capacity m) → w .count ≤ capacity
+  pub count-few : GivenTable (ToWalk rows roots names entries₀ lefts₀ rights₀ cells₀ capacity m) → w .count ≤ capacity
   count-few g = few-entries (h .so-far _ _ _ (g .known) .stands)
 
   module _ (l : i < w .count) where
     -- what the next visit asks
-    to-visit : (b : Book) (β : Bindings) (es : Table) → ToWalk rows roots names entries₀ lefts₀ rights₀ heads₀ next₀ capacity m b β es
-        → ToVisit rows roots names entries lefts rights heads next capacity (w .count) i b β (walk b β i 0 es)
+    to-visit : (b : Book) (β : Bindings) (es : Table) → ToWalk rows roots names entries₀ lefts₀ rights₀ cells₀ capacity m b β es
+        → ToVisit rows roots names entries lefts rights cells capacity (w .count) i b β (walk b β i 0 es)
     to-visit b β es q = record { known = q .known; stands = h .so-far b β es q .stands; there = l }
 
-    pub next-given : GivenTable (ToWalk rows roots names entries₀ lefts₀ rights₀ heads₀ next₀ capacity m)
-        → GivenTable (ToVisit rows roots names entries lefts rights heads next capacity (w .count) i)
+    pub next-given : GivenTable (ToWalk rows roots names entries₀ lefts₀ rights₀ cells₀ capacity m)
+        → GivenTable (ToVisit rows roots names entries lefts rights cells capacity (w .count) i)
     next-given g =
         record { book = g .book; bound = g .bound; table = walk (g .book) (g .bound) i 0 (g .table); known = to-visit _ _ _ (g .known) }
 
-    module _ {v : Visited} {entries′ lefts′ rights′ heads′ next′ : List ℕ}
-        (visited : Whatever (ToVisit rows roots names entries lefts rights heads next capacity (w .count) i)
-        (IsVisited entries′ lefts′ rights′ heads′ next′ capacity i v)) where
+    module _ {v : Visited} {entries′ lefts′ rights′ cells′ : List ℕ}
+        (visited : Whatever (ToVisit rows roots names entries lefts rights cells capacity (w .count) i)
+        (IsVisited entries′ lefts′ rights′ cells′ capacity i v)) where
       -- the walk one visit further
-      further : (b : Book) (β : Bindings) (es : Table) → ToWalk rows roots names entries₀ lefts₀ rights₀ heads₀ next₀ capacity m b β es
+      further : (b : Book) (β : Bindings) (es : Table) → ToWalk rows roots names entries₀ lefts₀ rights₀ cells₀ capacity m b β es
           → walk b β (i + 1) 0 es ≡ visit b β (walk b β i 0 es) i
       further b β es q = walk-more b β es i (omega (arith, h .so-far b β es q .stands .count))
 
       -- it needs entries beyond the capacity
-      pub walking-full : v .full ≡ true → Whatever (ToWalk rows roots names entries₀ lefts₀ rights₀ heads₀ next₀ capacity m)
-          (IsWalked entries′ lefts′ rights′ heads′ next′ capacity (record { turned = w .turned; count = w .count; full = true }))
+      pub walking-full : v .full ≡ true → Whatever (ToWalk rows roots names entries₀ lefts₀ rights₀ cells₀ capacity m)
+          (IsWalked entries′ lefts′ rights′ cells′ capacity (record { turned = w .turned; count = w .count; full = true }))
       walking-full f b β es q =
           let beyond = ltb-true capacity _ (sym (visited b β _ (to-visit b β es q) .reaches .is-full) ∙ f) in
           let steps : i + 1 ≤ suc capacity = omega (arith, few-entries (h .so-far b β es q .stands)) in
@@ -143,8 +143,8 @@ module _ {rows roots names entries₀ lefts₀ rights₀ heads₀ next₀ : List
 
       -- it is made
       module _ (f : v .full ≡ false) {w′ : Answer} (c : Counted w w′ (v .turned) (ltb i m)) where
-        walked-to : (b : Book) (β : Bindings) (es : Table) → ToWalk rows roots names entries₀ lefts₀ rights₀ heads₀ next₀ capacity m b β es
-            → WalkedTo entries′ lefts′ rights′ heads′ next′ capacity (w′ .turned) (v .count) (i + 1) b β es
+        walked-to : (b : Book) (β : Bindings) (es : Table) → ToWalk rows roots names entries₀ lefts₀ rights₀ cells₀ capacity m b β es
+            → WalkedTo entries′ lefts′ rights′ cells′ capacity (w′ .turned) (v .count) (i + 1) b β es
         walked-to b β es q =
             let so = h .so-far b β es q in
             let done = visited b β _ (to-visit b β es q) in
@@ -163,8 +163,8 @@ module _ {rows roots names entries₀ lefts₀ rights₀ heads₀ next₀ : List
                   (sym (turned-visit b β es (walk b β i 0 es) i old here (λ k. sym (so .ahead i (omega arith) k)))));
             }
 
-        pub walking-more : SameSizes entries lefts rights heads next entries′ lefts′ rights′ heads′ next′
-            → Walking rows roots names entries₀ lefts₀ rights₀ heads₀ next₀ capacity m entries′ lefts′ rights′ heads′ next′
+        pub walking-more : SameSizes entries lefts rights cells entries′ lefts′ rights′ cells′
+            → Walking rows roots names entries₀ lefts₀ rights₀ cells₀ capacity m entries′ lefts′ rights′ cells′
             (record { turned = w′ .turned; count = v .count; full = w′ .full }) (i + 1)
         walking-more sizes =
             record {
@@ -175,8 +175,8 @@ module _ {rows roots names entries₀ lefts₀ rights₀ heads₀ next₀ : List
             }
 
   -- it has reached the end
-  pub walking-all : w .count ≤ i → Whatever (ToWalk rows roots names entries₀ lefts₀ rights₀ heads₀ next₀ capacity m)
-      (IsWalked entries lefts rights heads next capacity w)
+  pub walking-all : w .count ≤ i → Whatever (ToWalk rows roots names entries₀ lefts₀ rights₀ cells₀ capacity m)
+      (IsWalked entries lefts rights cells capacity w)
   walking-all end b β es q =
       let so = h .so-far b β es q in
       let ended = walk-end b β es i capacity (omega (arith, few-entries (so .stands), so .within)) (omega (arith, so .stands .count)) in

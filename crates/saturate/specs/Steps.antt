@@ -11,10 +11,10 @@ use Rattle.placing.specs.Stands.{KnownTerms, Stands, Reaches}
 use Rattle.saturate.specs.declared.Walked.{Walked}
 
 -- A table of m entries to be walked through, and walked through: how many of its entries turned.
-pub record ToWalk (rows roots names entries lefts rights heads next : List ℕ) (capacity m : ℕ) (b : Book) (β : Bindings) (es : Table) : Type 0 where
+pub record ToWalk (rows roots names entries lefts rights cells : List ℕ) (capacity m : ℕ) (b : Book) (β : Bindings) (es : Table) : Type 0 where
   pub known : KnownTerms rows roots names b β
-  pub stands : Stands entries lefts rights heads next capacity m b β es
+  pub stands : Stands entries lefts rights cells capacity m b β es
 
-pub record IsWalked (entries lefts rights heads next : List ℕ) (capacity : ℕ) (w : Walked) (b : Book) (β : Bindings) (es : Table) : Type 0 where
-  pub reaches : Reaches entries lefts rights heads next capacity (w .count) (w .full) b β (walk b β (suc capacity) 0 es)
+pub record IsWalked (entries lefts rights cells : List ℕ) (capacity : ℕ) (w : Walked) (b : Book) (β : Bindings) (es : Table) : Type 0 where
+  pub reaches : Reaches entries lefts rights cells capacity (w .count) (w .full) b β (walk b β (suc capacity) 0 es)
   pub old-turned : w .full ≡ false → w .turned ≡ turned es (walk b β (suc capacity) 0 es)

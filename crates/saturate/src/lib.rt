@@ -21,12 +21,11 @@ pub fn walk(
     m: usize,
     lefts: &mut [u32],
     rights: &mut [u32],
-    heads: &mut [u32],
-    next: &mut [u32],
+    cells: &mut [u32],
 ) -> Walked
-    requires { ⌜ GivenTable (ToWalk (now rows) (now roots) (now names) (now entries) (now lefts) (now rights) (now heads) (now next) capacity m) ⌝ }
-    ensures { λ w. ⌜ Whatever (ToWalk (now (rows .entry)) (now (roots .entry)) (now (names .entry)) (now (entries .entry)) (now (lefts .entry)) (now (rights .entry)) (now (heads .entry)) (now (next .entry)) capacity m)
-        (IsWalked (now (entries .exit)) (now (lefts .exit)) (now (rights .exit)) (now (heads .exit)) (now (next .exit)) capacity w) ⌝ }
+    requires { ⌜ GivenTable (ToWalk (now rows) (now roots) (now names) (now entries) (now lefts) (now rights) (now cells) capacity m) ⌝ }
+    ensures { λ w. ⌜ Whatever (ToWalk (now (rows .entry)) (now (roots .entry)) (now (names .entry)) (now (entries .entry)) (now (lefts .entry)) (now (rights .entry)) (now (cells .entry)) capacity m)
+        (IsWalked (now (entries .exit)) (now (lefts .exit)) (now (rights .exit)) (now (cells .exit)) capacity w) ⌝ }
 {
     let mut w = Walked {
         turned: 0,
@@ -45,8 +44,7 @@ pub fn walk(
             i,
             lefts,
             rights,
-            heads,
-            next,
+            cells,
         );
         if v.full {
             w.full = true;

@@ -33,12 +33,12 @@ pub record Ranges (h : Header) (w : Walked) : Type 0 where
   pub longer : h .entries ≤ w .count
   pub within : w .count ≤ h .capacity
 
-module _ {rows roots names entries lefts rights heads next entries′ lefts′ rights′ heads′ next′ : List ℕ} (h : Header) {w : Walked}
-    (walked : Whatever (ToWalk rows roots names entries lefts rights heads next (h .capacity) (h .entries))
-    (IsWalked entries′ lefts′ rights′ heads′ next′ (h .capacity) w)) where
+module _ {rows roots names entries lefts rights cells entries′ lefts′ rights′ cells′ : List ℕ} (h : Header) {w : Walked}
+    (walked : Whatever (ToWalk rows roots names entries lefts rights cells (h .capacity) (h .entries))
+    (IsWalked entries′ lefts′ rights′ cells′ (h .capacity) w)) where
   -- the walk needs entries beyond the capacity
   pub walked-full : w .full ≡ true → {entries″ : List ℕ} {s : Stepped} → s ≡ record { refusal = 11; first = 0; second = 0; entries = 0; lines = 0 }
-      → Whatever (ToWalk rows roots names entries lefts rights heads next (h .capacity) (h .entries)) (IsSettled h entries″ s)
+      → Whatever (ToWalk rows roots names entries lefts rights cells (h .capacity) (h .entries)) (IsSettled h entries″ s)
   unfolding walkedAnswer
   walked-full f e b β es q =
       let beyond = ltb-true (h .capacity) _ (sym (walked b β es q .reaches .is-full) ∙ f) in
@@ -46,14 +46,14 @@ module _ {rows roots names entries lefts rights heads next entries′ lefts′ r
 
   module _ (f : w .full ≡ false) where
     -- it has ended: what setting same-as asks
-    to-settle : (b : Book) (β : Bindings) (es : Table) → ToWalk rows roots names entries lefts rights heads next (h .capacity) (h .entries) b β es
-        → ToSettle entries′ lefts′ rights′ heads′ next′ (w .count) b β (walk b β (suc (h .capacity)) 0 es)
+    to-settle : (b : Book) (β : Bindings) (es : Table) → ToWalk rows roots names entries lefts rights cells (h .capacity) (h .entries) b β es
+        → ToSettle entries′ lefts′ rights′ cells′ (w .count) b β (walk b β (suc (h .capacity)) 0 es)
     to-settle b β es q =
         let stands = walked b β es q .reaches .stands f in
         record { count = stands .count; held = stands .held; is-indexed = record { indexed = stands .indexed; names = stands .names } }
 
-    pub settle-given : GivenTable (ToWalk rows roots names entries lefts rights heads next (h .capacity) (h .entries))
-        → GivenTable (ToSettle entries′ lefts′ rights′ heads′ next′ (w .count))
+    pub settle-given : GivenTable (ToWalk rows roots names entries lefts rights cells (h .capacity) (h .entries))
+        → GivenTable (ToSettle entries′ lefts′ rights′ cells′ (w .count))
     settle-given g =
         record {
           book = g .book;
@@ -62,7 +62,7 @@ module _ {rows roots names entries lefts rights heads next entries′ lefts′ r
           known = to-settle _ _ _ (g .known);
         }
 
-    pub ranges : GivenTable (ToWalk rows roots names entries lefts rights heads next (h .capacity) (h .entries)) → Ranges h w
+    pub ranges : GivenTable (ToWalk rows roots names entries lefts rights cells (h .capacity) (h .entries)) → Ranges h w
     ranges g =
         let q = g .known in
         let done = walked _ _ _ q in
@@ -75,8 +75,8 @@ module _ {rows roots names entries lefts rights heads next entries′ lefts′ r
 
     -- and the answer once it is set
     pub walked-settled : {entries″ : List ℕ}
-        → Whatever (ToSettle entries′ lefts′ rights′ heads′ next′ (w .count)) (λ b β es. HoldsTable entries″ (settle b β es))
-        → Whatever (ToWalk rows roots names entries lefts rights heads next (h .capacity) (h .entries))
+        → Whatever (ToSettle entries′ lefts′ rights′ cells′ (w .count)) (λ b β es. HoldsTable entries″ (settle b β es))
+        → Whatever (ToWalk rows roots names entries lefts rights cells (h .capacity) (h .entries))
         (IsSettled h entries″
         (record { refusal = 0; first = w .turned; second = w .count - h .entries; entries = w .count; lines = h .lines }))
     unfolding walkedAnswer

@@ -15,21 +15,20 @@ pub fn walk_and_settle(
     es: &mut [u32],
     ls: &mut [u32],
     rs: &mut [u32],
-    hs: &mut [u32],
-    ns: &mut [u32],
+    cs: &mut [u32],
 ) -> Stepped
-    requires { ⌜ GivenTable (ToWalk (now rows) (now roots) (now names) (now es) (now ls) (now rs) (now hs) (now ns) (h .capacity) (h .entries)) ⌝ }
-    ensures { λ s. ⌜ Whatever (ToWalk (now (rows .entry)) (now (roots .entry)) (now (names .entry)) (now (es .entry)) (now (ls .entry)) (now (rs .entry)) (now (hs .entry)) (now (ns .entry)) (h .capacity) (h .entries))
+    requires { ⌜ GivenTable (ToWalk (now rows) (now roots) (now names) (now es) (now ls) (now rs) (now cs) (h .capacity) (h .entries)) ⌝ }
+    ensures { λ s. ⌜ Whatever (ToWalk (now (rows .entry)) (now (roots .entry)) (now (names .entry)) (now (es .entry)) (now (ls .entry)) (now (rs .entry)) (now (cs .entry)) (h .capacity) (h .entries))
         (IsSettled h (now (es .exit)) s) ⌝ }
 {
     let cap = h.capacity as usize;
     let m = h.entries as usize;
-    let w = saturate::walk(rows, roots, names, es, cap, m, ls, rs, hs, ns);
+    let w = saturate::walk(rows, roots, names, es, cap, m, ls, rs, cs);
     if w.full {
         return steps::refused(11);
     }
     let count = w.count;
-    sameas::settle(es, count, ls, rs, hs, ns);
+    sameas::settle(es, count, ls, rs, cs);
     Stepped {
         refusal: 0,
         first: w.turned as u32,

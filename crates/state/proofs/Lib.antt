@@ -1,4 +1,3 @@
 pub mod Header
 pub mod Parts
 pub mod Uses
-pub mod Rooms

@@ -9,13 +9,13 @@ use Rattle.model.specs.Area.{soundState, stateOf}
 use Rattle.layout.specs.Rows.{Loaded, loadedState}
 use Rattle.valued.specs.Valued.{Valued, Room}
 use Rattle.sound.specs.Sound.{rowsOk}
-use Rattle.kinds.specs.Known as Known
+use Rattle.pairs.specs.Index as Pairs
 use Rattle.state.specs.Loading.{Sizes, Used}
 
 -- They have room for every state within the limits.
-pub record Lent (lim : Limits) (list roots names lefts rights heads next : List ℕ) : Type 0 where
-  pub for-terms : Room list roots names lefts rights heads next (lim .maxTerms)
-  pub for-entries : Known.Room lefts rights heads next (lim .maxCapacity)
+pub record Lent (lim : Limits) (list roots names lefts rights cells : List ℕ) : Type 0 where
+  pub for-terms : Room list roots names lefts rights cells (lim .maxTerms)
+  pub for-entries : Pairs.Room lefts rights cells (lim .maxCapacity)
 
 -- The loaded words are those of a sound state, and the values of its terms are known.
 pub record Ready (lim : Limits) (w : Loaded) (list roots names : List ℕ) : Type 0 where

@@ -11,19 +11,19 @@ use Rattle.model.specs.Step.{State, addLine, bind}
 use Rattle.model.specs.Area.{wordSize, toBytes}
 use Rattle.model.specs.Call.{over}
 use Rattle.layout.specs.Rows.{Loaded, loadedWords, loadedState}
-use Rattle.kinds.specs.Known.{Room}
+use Rattle.pairs.specs.Index.{Room}
 use Rattle.state.specs.Ready.{Lent, Ready}
 use Rattle.state.proofs.Uses.{ready-facts}
 use Rattle.steps.specs.declared.Stepped.{Stepped}
 use Rattle.steps.specs.Stepped.{Gives}
-use Rattle.state.proofs.Rooms.{fewer-entries}
+use Rattle.pairs.proofs.Rooms.{room-fewer}
 use Rattle.stepping.specs.Step.{stepOf, numbersOf, storedBytes}
 
 -- room for every state is room for the entries of this one
-pub ready-room : {lim : Limits} {w : Loaded} {list roots names list′ roots′ names′ lefts rights heads next : List ℕ} → Ready lim w list roots names
-    → Lent lim list′ roots′ names′ lefts rights heads next → Room lefts rights heads next (w .capacity)
+pub ready-room : {lim : Limits} {w : Loaded} {list roots names list′ roots′ names′ lefts rights cells : List ℕ} → Ready lim w list roots names
+    → Lent lim list′ roots′ names′ lefts rights cells → Room lefts rights cells (w .capacity)
 unfolding loadedState
-ready-room r l = fewer-entries (omega (arith, ready-facts r .capacity-fits)) (l .for-entries)
+ready-room r l = room-fewer (omega (arith, ready-facts r .capacity-fits)) (l .for-entries)
 
 -- the step that is asked for gives the answer
 module _ (lim : Limits) (fixes : Bool) (state : State) (a b : ℕ) (s : Stepped) (w : Loaded) where

@@ -26,7 +26,7 @@ pub struct Request {
 }
 
 // Takes the step on a loaded state: its words are in `rows`, `bound`, `lines` and `es`, its terms in `seq`, what each stands for and
-// its name in `roots` and `names`. `ls`, `rs`, `hs` and `ns` are scratch.
+// its name in `roots` and `names`. `ls`, `rs` and `cs` are scratch.
 pub fn take(
     bound: &mut [u32],
     lines: &mut [u32],
@@ -38,12 +38,11 @@ pub fn take(
     q: Request,
     ls: &mut [u32],
     rs: &mut [u32],
-    hs: &mut [u32],
-    ns: &mut [u32],
+    cs: &mut [u32],
 ) -> Stepped
     requires modest { ⌜ Modest (limitsOf (q .lim)) ⌝ }
     requires ready { ⌜ Ready (limitsOf (q .lim)) (held (q .h) (now rows) (now bound) (now lines) (now es)) (now seq) (now roots) (now names) ⌝ }
-    requires lent { ⌜ Lent (limitsOf (q .lim)) (now seq) (now roots) (now names) (now ls) (now rs) (now hs) (now ns) ⌝ }
+    requires lent { ⌜ Lent (limitsOf (q .lim)) (now seq) (now roots) (now names) (now ls) (now rs) (now cs) ⌝ }
     ensures { λ s. ⌜ Gives (limitsOf (q .lim)) (stepOf (limitsOf (q .lim)) (q .fixes) (loadedState (held (q .h) (now (rows .entry)) (now (bound .entry)) (now (lines .entry)) (now (es .entry)))) (q .a) (q .b))
         (s .refusal) (numbersOf (q .fixes) s) (held (after (q .h) s) (now (rows .entry)) (now (bound .exit)) (now (lines .exit)) (now (es .exit))) ⌝ }
 {
@@ -52,9 +51,9 @@ pub fn take(
     let a = q.a;
     let b = q.b;
     if q.fixes {
-        return binding::bind(h, rows, bound, seq, roots, names, es, a, b, ls, rs, hs, ns);
+        return binding::bind(h, rows, bound, seq, roots, names, es, a, b, ls, rs, cs);
     }
-    adding::add_line(lim, h, rows, roots, names, lines, es, a, b, ls, rs, hs, ns)
+    adding::add_line(lim, h, rows, roots, names, lines, es, a, b, ls, rs, cs)
 }
 
 // Stores the state after a step that was accepted; a refused one changes no byte.

@@ -15,12 +15,12 @@ use Rattle.theory.proofs.Soundness.Facts.{SoundFacts}
 use Rattle.layout.specs.Rows.{Loaded, bookOf, boundOf, loadedState}
 use Rattle.rows.specs.RowTests.{entryRowsOk, zeroFrom}
 use Rattle.sound.proofs.Parts.{Holds}
-use Rattle.kinds.specs.Known.{Room}
+use Rattle.pairs.specs.Index.{Room}
 use Rattle.kinds.proofs.Loaded.{named-loaded, known-loaded}
 use Rattle.valued.specs.Valued.{Valued}
 use Rattle.state.specs.Ready.{Ready}
 use Rattle.valued.proofs.Values.{front}
-use Rattle.state.proofs.Rooms.{fewer-entries}
+use Rattle.pairs.proofs.Rooms.{room-fewer}
 use Rattle.placing.specs.Stands.{HoldsTable, KnownNames, KnownTerms}
 use Rattle.indexing.specs.Indexing.{ToIndex}
 
@@ -56,8 +56,8 @@ module _ {lim : Limits} {w : Loaded} {s : State} (f : SoundFacts lim s) (h : Hol
       }
 
   -- with the names of its terms, under these bindings or others, its table can be indexed
-  pub to-index : {names lefts rights heads next : List ℕ} {β : Bindings} → KnownNames names (s .book) β → Room lefts rights heads next (w .capacity)
-      → ToIndex names (w .entryRows) lefts rights heads next (w .entries) (s .book) β (s .entries)
+  pub to-index : {names lefts rights cells : List ℕ} {β : Bindings} → KnownNames names (s .book) β → Room lefts rights cells (w .capacity)
+      → ToIndex names (w .entryRows) lefts rights cells (w .entries) (s .book) β (s .entries)
   to-index k room =
       record {
         known = k;
@@ -65,5 +65,5 @@ module _ {lim : Limits} {w : Loaded} {s : State} (f : SoundFacts lim s) (h : Hol
         held = held-table;
         left-term = f .table .left-term;
         right-term = f .table .right-term;
-        room = fewer-entries (omega (arith, f .few-entries, h .entries-count, h .the-capacity)) room;
+        room = room-fewer (omega (arith, f .few-entries, h .entries-count, h .the-capacity)) room;
       }

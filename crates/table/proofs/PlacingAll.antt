@@ -39,24 +39,24 @@ upTo ls rs j b β es = placeAll b β es (take j ls) (take j rs)
 abbrev entriesTo : List ℕ → List ℕ → ℕ → Book → Bindings → Table → List ℕ
 entriesTo ls rs j b β es = pairwise (entryOf b β (upTo ls rs j b β es)) (take j ls) (take j rs)
 
-pub record PlacedTo (entries lefts rights heads next : List ℕ) (capacity : ℕ) (ls rs numbers : List ℕ) (count j : ℕ) (b : Book) (β : Bindings) (es : Table) : Type 0 where
-  pub stands : Stands entries lefts rights heads next capacity count b β (upTo ls rs j b β es)
+pub record PlacedTo (entries lefts rights cells : List ℕ) (capacity : ℕ) (ls rs numbers : List ℕ) (count j : ℕ) (b : Book) (β : Bindings) (es : Table) : Type 0 where
+  pub stands : Stands entries lefts rights cells capacity count b β (upTo ls rs j b β es)
   pub their-entries : numbers ≡ padded maxArity (entriesTo ls rs j b β es)
 
 -- What holds at the loop's head.
-pub record PlacingAll (names entries₀ lefts₀ rights₀ heads₀ next₀ : List ℕ) (capacity m : ℕ) (ls rs : List ℕ)
-    (entries lefts rights heads next numbers : List ℕ) (count j : ℕ) : Type 0 where
-  pub sizes : SameSizes entries₀ lefts₀ rights₀ heads₀ next₀ entries lefts rights heads next
+pub record PlacingAll (names entries₀ lefts₀ rights₀ cells₀ : List ℕ) (capacity m : ℕ) (ls rs : List ℕ)
+    (entries lefts rights cells numbers : List ℕ) (count j : ℕ) : Type 0 where
+  pub sizes : SameSizes entries₀ lefts₀ rights₀ cells₀ entries lefts rights cells
   pub within : j ≤ length ls
-  pub so-far : Whatever (ToPlaceAll names entries₀ lefts₀ rights₀ heads₀ next₀ capacity m ls rs)
-      (PlacedTo entries lefts rights heads next capacity ls rs numbers count j)
+  pub so-far : Whatever (ToPlaceAll names entries₀ lefts₀ rights₀ cells₀ capacity m ls rs)
+      (PlacedTo entries lefts rights cells capacity ls rs numbers count j)
 
-pub placing-none : (names entries lefts rights heads next : List ℕ) (capacity m : ℕ) (ls rs : List ℕ)
-    → PlacingAll names entries lefts rights heads next capacity m ls rs entries lefts rights heads next (replicate maxArity 0) m 0
+pub placing-none : (names entries lefts rights cells : List ℕ) (capacity m : ℕ) (ls rs : List ℕ)
+    → PlacingAll names entries lefts rights cells capacity m ls rs entries lefts rights cells (replicate maxArity 0) m 0
 unfolding placeAll pairwise padded
-placing-none names entries lefts rights heads next capacity m ls rs =
+placing-none names entries lefts rights cells capacity m ls rs =
     record {
-      sizes = same-sizes entries lefts rights heads next;
+      sizes = same-sizes entries lefts rights cells;
       within = omega arith;
       so-far = λ b β es q. record { stands = q .stands; their-entries = refl };
     }
@@ -102,12 +102,12 @@ module _ (ls rs : List ℕ) (e : length ls ≡ length rs) (j : ℕ) (t : j < len
       placeAll-append b β es (take (j + 1) ls) (take (j + 1) rs) (drop (j + 1) ls) (drop (j + 1) rs) k in
       rw whole (placeAll-longer b β (upTo ls rs (j + 1) b β es) (drop (j + 1) ls) (drop (j + 1) rs))
 
-module _ {names entries₀ lefts₀ rights₀ heads₀ next₀ : List ℕ} {capacity m : ℕ} {ls rs entries lefts rights heads next numbers : List ℕ} {count j : ℕ}
-    (i : PlacingAll names entries₀ lefts₀ rights₀ heads₀ next₀ capacity m ls rs entries lefts rights heads next numbers count j) where
+module _ {names entries₀ lefts₀ rights₀ cells₀ : List ℕ} {capacity m : ℕ} {ls rs entries lefts rights cells numbers : List ℕ} {count j : ℕ}
+    (i : PlacingAll names entries₀ lefts₀ rights₀ cells₀ capacity m ls rs entries lefts rights cells numbers count j) where
   module _ (t : j < length ls) {x y : ℕ} (left : x ≡ at ls j) (right : y ≡ at rs j) where
     -- what the next pair asks
-    to-place : (b : Book) (β : Bindings) (es : Table) → ToPlaceAll names entries₀ lefts₀ rights₀ heads₀ next₀ capacity m ls rs b β es
-        → ToPlace names entries lefts rights heads next capacity count x y b β (upTo ls rs j b β es)
+    to-place : (b : Book) (β : Bindings) (es : Table) → ToPlaceAll names entries₀ lefts₀ rights₀ cells₀ capacity m ls rs b β es
+        → ToPlace names entries lefts rights cells capacity count x y b β (upTo ls rs j b β es)
     to-place b β es q =
         rw (left, right)
         (record {
@@ -117,21 +117,21 @@ module _ {names entries₀ lefts₀ rights₀ heads₀ next₀ : List ℕ} {capa
           right-term = q .right-terms j (omega (arith, q .pairs));
         })
 
-    pub next-given : GivenTable (ToPlaceAll names entries₀ lefts₀ rights₀ heads₀ next₀ capacity m ls rs)
-        → GivenTable (ToPlace names entries lefts rights heads next capacity count x y)
+    pub next-given : GivenTable (ToPlaceAll names entries₀ lefts₀ rights₀ cells₀ capacity m ls rs)
+        → GivenTable (ToPlace names entries lefts rights cells capacity count x y)
     next-given g =
         record { book = g .book; bound = g .bound; table = upTo ls rs j (g .book) (g .bound) (g .table); known = to-place _ _ _ (g .known) }
 
-    module _ {p : Placed} {entries′ lefts′ rights′ heads′ next′ : List ℕ}
-        (placed : Whatever (ToPlace names entries lefts rights heads next capacity count x y)
-        (IsPlaced entries′ lefts′ rights′ heads′ next′ capacity x y p)) where
-      is-placed : (b : Book) (β : Bindings) (es : Table) → ToPlaceAll names entries₀ lefts₀ rights₀ heads₀ next₀ capacity m ls rs b β es
-          → IsPlaced entries′ lefts′ rights′ heads′ next′ capacity (at ls j) (at rs j) p b β (upTo ls rs j b β es)
+    module _ {p : Placed} {entries′ lefts′ rights′ cells′ : List ℕ}
+        (placed : Whatever (ToPlace names entries lefts rights cells capacity count x y)
+        (IsPlaced entries′ lefts′ rights′ cells′ capacity x y p)) where
+      is-placed : (b : Book) (β : Bindings) (es : Table) → ToPlaceAll names entries₀ lefts₀ rights₀ cells₀ capacity m ls rs b β es
+          → IsPlaced entries′ lefts′ rights′ cells′ capacity (at ls j) (at rs j) p b β (upTo ls rs j b β es)
       is-placed b β es q = rw (left, right) at (placed b β _ (to-place b β es q))
 
       -- it is full
-      pub placing-full : p .full ≡ true → Whatever (ToPlaceAll names entries₀ lefts₀ rights₀ heads₀ next₀ capacity m ls rs)
-          (ArePlaced entries′ lefts′ rights′ heads′ next′ capacity ls rs (record { entries = numbers; count = count; full = true }))
+      pub placing-full : p .full ≡ true → Whatever (ToPlaceAll names entries₀ lefts₀ rights₀ cells₀ capacity m ls rs)
+          (ArePlaced entries′ lefts′ rights′ cells′ capacity ls rs (record { entries = numbers; count = count; full = true }))
       placing-full f b β es q =
           let over = ltb-true capacity _ (sym (is-placed b β es q .reaches .is-full) ∙ f) in
           let longer = rw (up-more ls rs (q .pairs) j t b β es) at (up-longer ls rs (q .pairs) j t b β es) in
@@ -141,8 +141,8 @@ module _ {names entries₀ lefts₀ rights₀ heads₀ next₀ : List ℕ} {capa
           }
 
       -- it is placed
-      placed-to : p .full ≡ false → (b : Book) (β : Bindings) (es : Table) → ToPlaceAll names entries₀ lefts₀ rights₀ heads₀ next₀ capacity m ls rs b β es
-          → PlacedTo entries′ lefts′ rights′ heads′ next′ capacity ls rs (set numbers j (p .entry)) (p .count) (j + 1) b β es
+      placed-to : p .full ≡ false → (b : Book) (β : Bindings) (es : Table) → ToPlaceAll names entries₀ lefts₀ rights₀ cells₀ capacity m ls rs b β es
+          → PlacedTo entries′ lefts′ rights′ cells′ capacity ls rs (set numbers j (p .entry)) (p .count) (j + 1) b β es
       placed-to f b β es q =
           let done = is-placed b β es q in
           let more = up-more ls rs (q .pairs) j t b β es in
@@ -158,13 +158,13 @@ module _ {names entries₀ lefts₀ rights₀ heads₀ next₀ : List ℕ} {capa
                 ap (padded maxArity) (sym (entries-more ls rs (q .pairs) j t b β es)));
           }
 
-      pub placing-more : p .full ≡ false → SameSizes entries lefts rights heads next entries′ lefts′ rights′ heads′ next′
-          → PlacingAll names entries₀ lefts₀ rights₀ heads₀ next₀ capacity m ls rs entries′ lefts′ rights′ heads′ next′ (set numbers j (p .entry)) (p .count) (j + 1)
+      pub placing-more : p .full ≡ false → SameSizes entries lefts rights cells entries′ lefts′ rights′ cells′
+          → PlacingAll names entries₀ lefts₀ rights₀ cells₀ capacity m ls rs entries′ lefts′ rights′ cells′ (set numbers j (p .entry)) (p .count) (j + 1)
       placing-more f sizes = record { sizes = sizes-trans (i .sizes) sizes; within = omega arith; so-far = placed-to f }
 
   -- all are placed
-  pub placing-all : length ls ≤ j → Whatever (ToPlaceAll names entries₀ lefts₀ rights₀ heads₀ next₀ capacity m ls rs)
-      (ArePlaced entries lefts rights heads next capacity ls rs (record { entries = numbers; count = count; full = false }))
+  pub placing-all : length ls ≤ j → Whatever (ToPlaceAll names entries₀ lefts₀ rights₀ cells₀ capacity m ls rs)
+      (ArePlaced entries lefts rights cells capacity ls rs (record { entries = numbers; count = count; full = false }))
   placing-all l b β es q =
       let so = i .so-far b β es q in
       let all-ls : take j ls ≡ ls = take-all j ls l in

@@ -4,8 +4,8 @@ use mathlib.Core.List.{List, []}
 use mathlib.Core.Bool.{Bool, true, false, true≢false}
 use Prim.Native.Nat.{ℕ, _+_, _*_, _-_, _≤_, _<_}
 use native.Mathlib.Omega.{arith}
-use lib.ListN.{length, getD, take, drop, length-append, length-drop}
-use lib.Seq.{paste, getD-at, length-take-le}
+use lib.ListN.{length, getD, length-append}
+use lib.Seq.{paste, getD-at}
 use Rattle.model.specs.Limits.{maxArity}
 use Rattle.model.specs.Lists.{pairwise}
 use Rattle.model.specs.Term.{Node, symbol, arguments, alike, Book, Bindings}
@@ -73,17 +73,17 @@ module _ (rows : List ℕ) (t : ℕ) (d : at rows (termWords * t) ≡ 0 → ⊥)
   applied-symbol = rw (node-app rows t d)
 
 -- An entry whose sides stand for the terms l and r, which are alike, before its argument pairs are placed.
-pub record Turnable (rows names entries lefts rights heads next : List ℕ) (capacity m i : ℕ) (e : Row) (l r : ℕ) (b : Book) (β : Bindings) (es : Table) : Type 0 where
+pub record Turnable (rows names entries lefts rights cells : List ℕ) (capacity m i : ℕ) (e : Row) (l r : ℕ) (b : Book) (β : Bindings) (es : Table) : Type 0 where
   pub known : Held b β rows names [] 0
-  pub stands : Stands entries lefts rights heads next capacity m b β es
+  pub stands : Stands entries lefts rights cells capacity m b β es
   pub there : i < m
   pub is-entry : rowOf e ≡ entryWords (entry es i)
   pub left-term : l < length b
   pub right-term : r < length b
   pub are-alike : alike (nodeOf rows l) (nodeOf rows r) ≡ true
 
-module _ {rows names entries lefts rights heads next : List ℕ} {capacity m i : ℕ} {e : Row} {l r : ℕ} {b : Book} {β : Bindings} {es : Table}
-    (q : Turnable rows names entries lefts rights heads next capacity m i e l r b β es) where
+module _ {rows names entries lefts rights cells : List ℕ} {capacity m i : ℕ} {e : Row} {l r : ℕ} {b : Book} {β : Bindings} {es : Table}
+    (q : Turnable rows names entries lefts rights cells capacity m i e l r b β es) where
   abbrev n : Node
   n = nodeOf rows l
 
@@ -110,7 +110,7 @@ module _ {rows names entries lefts rights heads next : List ℕ} {capacity m i :
   arity = rw (← row-arguments rows l left-app) (length-row rows l (row-end (q .known) l (q .left-term)))
 
   -- what placing the argument pairs asks
-  pub to-place-all : ToPlaceAll names entries lefts rights heads next capacity m (argumentsAt rows l) (argumentsAt rows r) b β es
+  pub to-place-all : ToPlaceAll names entries lefts rights cells capacity m (argumentsAt rows l) (argumentsAt rows r) b β es
   to-place-all =
       record {
         known = q .known .named;
@@ -121,13 +121,13 @@ module _ {rows names entries lefts rights heads next : List ℕ} {capacity m i :
         few = rw (row-arguments rows l left-app) few;
       }
 
-  module _ {a : Arguments} {entries′ lefts′ rights′ heads′ next′ : List ℕ}
-      (placed : ArePlaced entries′ lefts′ rights′ heads′ next′ capacity (argumentsAt rows l) (argumentsAt rows r) a b β es) where
-    done : ArePlaced entries′ lefts′ rights′ heads′ next′ capacity (arguments n) (arguments o) a b β es
+  module _ {a : Arguments} {entries′ lefts′ rights′ cells′ : List ℕ}
+      (placed : ArePlaced entries′ lefts′ rights′ cells′ capacity (argumentsAt rows l) (argumentsAt rows r) a b β es) where
+    done : ArePlaced entries′ lefts′ rights′ cells′ capacity (arguments n) (arguments o) a b β es
     done = rw (row-arguments rows l left-app, row-arguments rows r right-app) at placed
 
     -- they need entries beyond the capacity
-    turn-full : (entries″ : List ℕ) → a .full ≡ true → Reaches entries″ lefts′ rights′ heads′ next′ capacity (a .count) (a .full) b β (turn b β es i (entry es i) n o)
+    turn-full : (entries″ : List ℕ) → a .full ≡ true → Reaches entries″ lefts′ rights′ cells′ capacity (a .count) (a .full) b β (turn b β es i (entry es i) n o)
     turn-full entries″ f =
         record { is-full = done .reaches .is-full ∙ rw (turn-length b β es i n o); stands = λ x. absurd (true≢false (sym f ∙ x)) }
 
@@ -168,7 +168,7 @@ module _ {rows names entries lefts rights heads next : List ℕ} {capacity m i :
 
       module _ {entries″ : List ℕ} (put : entries″ ≡ paste entries′ (entryRowWords * i) (rowOf (turnedRow rows l e (a .entries))) entryRowWords)
           (size : length entries″ ≡ length entries′) where
-        turn-stands : Stands entries″ lefts′ rights′ heads′ next′ capacity (a .count) b β (turn b β es i (entry es i) n o)
+        turn-stands : Stands entries″ lefts′ rights′ cells′ capacity (a .count) b β (turn b β es i (entry es i) n o)
         unfolding turn
         turn-stands =
             let s = done .reaches .stands f in
@@ -183,9 +183,9 @@ module _ {rows names entries lefts rights heads next : List ℕ} {capacity m i :
 
     -- so turning leads to the turned table
     module _ {v : Visited} {entries″ : List ℕ} (turned : IsTurned rows entries′ entries″ i l e a v) (size : length entries″ ≡ length entries′) where
-      reaches-at : (t : Bool) → a .full ≡ t → Reaches entries″ lefts′ rights′ heads′ next′ capacity (a .count) (a .full) b β (turn b β es i (entry es i) n o)
+      reaches-at : (t : Bool) → a .full ≡ t → Reaches entries″ lefts′ rights′ cells′ capacity (a .count) (a .full) b β (turn b β es i (entry es i) n o)
       reaches-at true f = turn-full entries″ f
       reaches-at false f = rw f (stands-reaches (turn-stands f (rw f at (turned .put)) size))
 
-      pub turn-reaches : Reaches entries″ lefts′ rights′ heads′ next′ capacity (a .count) (a .full) b β (turn b β es i (entry es i) n o)
+      pub turn-reaches : Reaches entries″ lefts′ rights′ cells′ capacity (a .count) (a .full) b β (turn b β es i (entry es i) n o)
       turn-reaches = reaches-at (a .full) refl

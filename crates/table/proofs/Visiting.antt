@@ -44,8 +44,8 @@ visit-turns b β es i h a =
       | inr p ↦ p .2
     ]
 
-module _ {rows roots names entries lefts rights heads next : List ℕ} {capacity m i : ℕ} {b : Book} {β : Bindings} {es : Table}
-    (q : ToVisit rows roots names entries lefts rights heads next capacity m i b β es) (e : Row)
+module _ {rows roots names entries lefts rights cells : List ℕ} {capacity m i : ℕ} {b : Book} {β : Bindings} {es : Table}
+    (q : ToVisit rows roots names entries lefts rights cells capacity m i b β es) (e : Row)
     (read : rowOf e ≡ take entryRowWords (drop (entryRowWords * i) entries)) where
   here : i < length es
   here = omega (arith, q .there, q .stands .count)
@@ -84,22 +84,22 @@ module _ {rows roots names entries lefts rights heads next : List ℕ} {capacity
 
   -- an entry that does not turn
   idle : isHole (entry es i .kind) && alike (root b β (entry es i .left)) (root b β (entry es i .right)) ≡ false
-      → IsVisited entries lefts rights heads next capacity i (record { turned = false; count = m; full = false }) b β es
+      → IsVisited entries lefts rights cells capacity i (record { turned = false; count = m; full = false }) b β es
   idle h = record { reaches = rw (visit-idle b β es i h) (stands-reaches (q .stands)); turned = sym h }
 
   -- it is common
-  pub visit-common : (e .kind ≡ 0 → ⊥) → IsVisited entries lefts rights heads next capacity i (record { turned = false; count = m; full = false }) b β es
+  pub visit-common : (e .kind ≡ 0 → ⊥) → IsVisited entries lefts rights cells capacity i (record { turned = false; count = m; full = false }) b β es
   unfolding entryWords
   visit-common d = idle (rw (kind-common (entry es i .kind) _ (λ z. d (kind-word ∙ z))))
 
   -- its roots are not alike
   pub visit-unlike : alike (nodeOf rows (at roots (e .left))) (nodeOf rows (at roots (e .right))) ≡ false
-      → IsVisited entries lefts rights heads next capacity i (record { turned = false; count = m; full = false }) b β es
+      → IsVisited entries lefts rights cells capacity i (record { turned = false; count = m; full = false }) b β es
   visit-unlike a = idle (rw (left-root, right-root, a) (and-false (isHole (entry es i .kind))))
 
   -- it turns
   module _ (a : alike (nodeOf rows (at roots (e .left))) (nodeOf rows (at roots (e .right))) ≡ true) where
-    pub turnable : Turnable rows names entries lefts rights heads next capacity m i e (at roots (e .left)) (at roots (e .right)) b β es
+    pub turnable : Turnable rows names entries lefts rights cells capacity m i e (at roots (e .left)) (at roots (e .right)) b β es
     turnable =
         record {
           known = q .known .held;
@@ -111,11 +111,11 @@ module _ {rows roots names entries lefts rights heads next : List ℕ} {capacity
           are-alike = a;
         }
 
-    pub visit-turned : e .kind ≡ 0 → {v : Visited} {count : ℕ} {full : Bool} {entries′ lefts′ rights′ heads′ next′ : List ℕ}
+    pub visit-turned : e .kind ≡ 0 → {v : Visited} {count : ℕ} {full : Bool} {entries′ lefts′ rights′ cells′ : List ℕ}
         → v ≡ record { turned = true; count = count; full = full }
-        → Reaches entries′ lefts′ rights′ heads′ next′ capacity count full b β
+        → Reaches entries′ lefts′ rights′ cells′ capacity count full b β
         (turn b β es i (entry es i) (nodeOf rows (at roots (e .left))) (nodeOf rows (at roots (e .right))))
-        → IsVisited entries′ lefts′ rights′ heads′ next′ capacity i v b β es
+        → IsVisited entries′ lefts′ rights′ cells′ capacity i v b β es
     unfolding entryWords
     visit-turned z answer reaches =
         let h : isHole (entry es i .kind) ≡ true = kind-hole (entry es i .kind) _ (sym kind-word ∙ z) in

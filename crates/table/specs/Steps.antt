@@ -24,16 +24,16 @@ abbrev pub argumentsAt : List ℕ → ℕ → List ℕ
 argumentsAt rows t = take (at rows (termWords * t + 1)) (drop (termWords * t + 2) rows)
 
 -- Argument pairs to be placed, and placed: each has its entry.
-pub record ToPlaceAll (names entries lefts rights heads next : List ℕ) (capacity m : ℕ) (ls rs : List ℕ) (b : Book) (β : Bindings) (es : Table) : Type 0 where
+pub record ToPlaceAll (names entries lefts rights cells : List ℕ) (capacity m : ℕ) (ls rs : List ℕ) (b : Book) (β : Bindings) (es : Table) : Type 0 where
   pub known : KnownNames names b β
-  pub stands : Stands entries lefts rights heads next capacity m b β es
+  pub stands : Stands entries lefts rights cells capacity m b β es
   pub left-terms : Terms b ls
   pub right-terms : Terms b rs
   pub pairs : length ls ≡ length rs
   pub few : length ls ≤ maxArity
 
-pub record ArePlaced (entries lefts rights heads next : List ℕ) (capacity : ℕ) (ls rs : List ℕ) (a : Arguments) (b : Book) (β : Bindings) (es : Table) : Type 0 where
-  pub reaches : Reaches entries lefts rights heads next capacity (a .count) (a .full) b β (placeAll b β es ls rs)
+pub record ArePlaced (entries lefts rights cells : List ℕ) (capacity : ℕ) (ls rs : List ℕ) (a : Arguments) (b : Book) (β : Bindings) (es : Table) : Type 0 where
+  pub reaches : Reaches entries lefts rights cells capacity (a .count) (a .full) b β (placeAll b β es ls rs)
   pub their-entries : a .full ≡ false → a .entries ≡ padded maxArity (pairwise (entryOf b β (placeAll b β es ls rs)) ls rs)
 
 -- A row as it is turned: common, with the symbol and the count of the term in row l, and the entries of its argument pairs.
@@ -60,11 +60,11 @@ pub record IsTurned (rows entries entries′ : List ℕ) (i l : ℕ) (e : Entry)
   pub put : entries′ ≡ cond (a .full) entries (paste entries (entryRowWords * i) (rowOf (turnedRow rows l e (a .entries))) entryRowWords)
 
 -- An entry to be visited, and visited: whether it turned.
-pub record ToVisit (rows roots names entries lefts rights heads next : List ℕ) (capacity m i : ℕ) (b : Book) (β : Bindings) (es : Table) : Type 0 where
+pub record ToVisit (rows roots names entries lefts rights cells : List ℕ) (capacity m i : ℕ) (b : Book) (β : Bindings) (es : Table) : Type 0 where
   pub known : KnownTerms rows roots names b β
-  pub stands : Stands entries lefts rights heads next capacity m b β es
+  pub stands : Stands entries lefts rights cells capacity m b β es
   pub there : i < m
 
-pub record IsVisited (entries lefts rights heads next : List ℕ) (capacity i : ℕ) (v : Visited) (b : Book) (β : Bindings) (es : Table) : Type 0 where
-  pub reaches : Reaches entries lefts rights heads next capacity (v .count) (v .full) b β (visit b β es i)
+pub record IsVisited (entries lefts rights cells : List ℕ) (capacity i : ℕ) (v : Visited) (b : Book) (β : Bindings) (es : Table) : Type 0 where
+  pub reaches : Reaches entries lefts rights cells capacity (v .count) (v .full) b β (visit b β es i)
   pub turned : v .turned ≡ isHole (entry es i .kind) && alike (root b β (entry es i .left)) (root b β (entry es i .right))

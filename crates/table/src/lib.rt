@@ -1,7 +1,6 @@
 // The steps of a pair table in slices: its argument pairs placed, an entry turned or visited, each as its definition says
 // (specs/Steps.antt; document 01, "The pair table"). The slices are those of crate `placing`.
 
-ghost use mathlib.Core.Path.{_≡_};
 ghost use Prim.Native.Nat.{_+_, _*_, _≤_};
 ghost use lib.ListN.{length};
 ghost use Rattle.model.specs.Area.{termWords};
@@ -38,14 +37,13 @@ fn place_all(
     r: usize,
     lefts: &mut [u32],
     rights: &mut [u32],
-    heads: &mut [u32],
-    next: &mut [u32],
+    cells: &mut [u32],
 ) -> Arguments
-    requires given { ⌜ GivenTable (ToPlaceAll (now names) (now entries) (now lefts) (now rights) (now heads) (now next) capacity m (argumentsAt (now rows) l) (argumentsAt (now rows) r)) ⌝ }
+    requires given { ⌜ GivenTable (ToPlaceAll (now names) (now entries) (now lefts) (now rights) (now cells) capacity m (argumentsAt (now rows) l) (argumentsAt (now rows) r)) ⌝ }
     requires left { ⌜ termWords * l + 2 + at (now rows) (termWords * l + 1) ≤ length (now rows) ⌝ }
     requires right { ⌜ termWords * r + 2 + at (now rows) (termWords * r + 1) ≤ length (now rows) ⌝ }
-    ensures { λ a. ⌜ Whatever (ToPlaceAll (now (names .entry)) (now (entries .entry)) (now (lefts .entry)) (now (rights .entry)) (now (heads .entry)) (now (next .entry)) capacity m (argumentsAt (now (rows .entry)) l) (argumentsAt (now (rows .entry)) r))
-        (ArePlaced (now (entries .exit)) (now (lefts .exit)) (now (rights .exit)) (now (heads .exit)) (now (next .exit)) capacity (argumentsAt (now (rows .entry)) l) (argumentsAt (now (rows .entry)) r) a) ⌝ }
+    ensures { λ a. ⌜ Whatever (ToPlaceAll (now (names .entry)) (now (entries .entry)) (now (lefts .entry)) (now (rights .entry)) (now (cells .entry)) capacity m (argumentsAt (now (rows .entry)) l) (argumentsAt (now (rows .entry)) r))
+        (ArePlaced (now (entries .exit)) (now (lefts .exit)) (now (rights .exit)) (now (cells .exit)) capacity (argumentsAt (now (rows .entry)) l) (argumentsAt (now (rows .entry)) r) a) ⌝ }
 {
     let ls = TERM_WORDS * l + 2;
     let rs = TERM_WORDS * r + 2;
@@ -63,8 +61,7 @@ fn place_all(
             rows[rs + j],
             lefts,
             rights,
-            heads,
-            next,
+            cells,
         );
         if p.full {
             return Arguments {
@@ -116,7 +113,7 @@ fn turn(rows: &[u32], entries: &mut [u32], i: usize, l: usize, e: Entry, args: A
     }
 }
 
-// Visits entry `i`: a hole whose sides stand for terms of one symbol turns common. `ls`, `rs`, `hs` and `ns` are the names of the
+// Visits entry `i`: a hole whose sides stand for terms of one symbol turns common. `ls`, `rs` and `cs` are the names of the
 // sides and their index.
 pub fn visit(
     rows: &[u32],
@@ -128,12 +125,11 @@ pub fn visit(
     i: usize,
     ls: &mut [u32],
     rs: &mut [u32],
-    hs: &mut [u32],
-    ns: &mut [u32],
+    cs: &mut [u32],
 ) -> Visited
-    requires { ⌜ GivenTable (ToVisit (now rows) (now roots) (now names) (now entries) (now ls) (now rs) (now hs) (now ns) cap m i) ⌝ }
-    ensures { λ v. ⌜ Whatever (ToVisit (now (rows .entry)) (now (roots .entry)) (now (names .entry)) (now (entries .entry)) (now (ls .entry)) (now (rs .entry)) (now (hs .entry)) (now (ns .entry)) cap m i)
-        (IsVisited (now (entries .exit)) (now (ls .exit)) (now (rs .exit)) (now (hs .exit)) (now (ns .exit)) cap i v) ⌝ }
+    requires { ⌜ GivenTable (ToVisit (now rows) (now roots) (now names) (now entries) (now ls) (now rs) (now cs) cap m i) ⌝ }
+    ensures { λ v. ⌜ Whatever (ToVisit (now (rows .entry)) (now (roots .entry)) (now (names .entry)) (now (entries .entry)) (now (ls .entry)) (now (rs .entry)) (now (cs .entry)) cap m i)
+        (IsVisited (now (entries .exit)) (now (ls .exit)) (now (rs .exit)) (now (cs .exit)) cap i v) ⌝ }
 {
     let e = entry::entry_at(entries, i);
     if e.kind != 0 {
@@ -154,6 +150,6 @@ pub fn visit(
             full: false,
         };
     }
-    let args = place_all(rows, names, entries, cap, m, l, r, ls, rs, hs, ns);
+    let args = place_all(rows, names, entries, cap, m, l, r, ls, rs, cs);
     turn(rows, entries, i, l, e, args)
 }

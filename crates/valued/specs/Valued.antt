@@ -17,7 +17,7 @@ pub record Valued (rows words list roots names : List ℕ) (n : ℕ) : Type 0 wh
   pub is-names : take n names ≡ map (name (bookOf rows n) (boundOf words n)) (from 0 n)
 
 -- The slices have room for the values of n terms; those behind `names` are scratch, and so is `roots` at first.
-pub record Room (list roots names lefts rights heads next : List ℕ) (n : ℕ) : Type 0 where
+pub record Room (list roots names lefts rights cells : List ℕ) (n : ℕ) : Type 0 where
   pub list-fits : n ≤ length list
   pub names-fit : n ≤ length names
-  pub scratch : Scratch lefts rights heads next roots n
+  pub scratch : Scratch lefts rights cells roots n

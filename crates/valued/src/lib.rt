@@ -8,7 +8,7 @@ ghost use Rattle.layout.specs.Rows.{bookOf, boundOf, GoodTerms};
 ghost use Rattle.valued.specs.Valued.{Valued, Room};
 
 // Whether no value contains itself; then lists the `n` terms, and finds what each stands for and its name. `roots` is scratch
-// until the names are found, and `ls`, `rs`, `heads` and `next` are scratch.
+// until the names are found, and `ls`, `rs` and `cells` are scratch.
 pub fn name_terms(
     n: u32,
     list: &mut [u32],
@@ -18,17 +18,16 @@ pub fn name_terms(
     ls: &mut [u32],
     rows: &[u32],
     rs: &mut [u32],
-    heads: &mut [u32],
-    next: &mut [u32],
+    cells: &mut [u32],
 ) -> bool
-    requires { ⌜ GoodTerms (now rows) (now bindings) n × Room (now list) (now roots) (now names) (now ls) (now rs) (now heads) (now next) n ⌝ }
+    requires { ⌜ GoodTerms (now rows) (now bindings) n × Room (now list) (now roots) (now names) (now ls) (now rs) (now cells) n ⌝ }
     ensures acyclic { λ r. ⌜ r ≡ acyclic (bookOf (now (rows .entry)) n) (boundOf (now (bindings .entry)) n) ⌝ }
     ensures values { λ r. ⌜ (r ≡ true → Valued (now (rows .entry)) (now (bindings .entry)) (now (list .exit)) (now (roots .exit)) (now (names .exit)) n) ⌝ }
 {
     if !order::order(rows, bindings, n, roots, list) {
         return false;
     }
-    names::names(rows, bindings, n, list, ls, rs, heads, next, roots, names);
+    names::names(rows, bindings, n, list, ls, rs, cells, roots, names);
     values::roots(rows, bindings, n, list, roots);
     true
 }

@@ -22,29 +22,29 @@ use Rattle.calls.proofs.step.Tie as tie
 
 -- the test of the area, where it was refused and where it was not
 abbrev tested : tie.After-refused → tie.After-sound
-tested c = c .before .before .before .before .before .before .before .before .before .before .before .before .before .before .before .before .before .before .before .before .before .before .before .before
+tested c = c .before .before .before .before .before .before .before .before .before .before .before .before .before .before .before .before .before .before .before .before .before .before
 
 abbrev passed : tie.Else1 → tie.After-sound
-passed e = e .before .before .before .before .before .before .before .before .before .before .before .before .before .before .before .before .before .before .before .before .before .before .before
+passed e = e .before .before .before .before .before .before .before .before .before .before .before .before .before .before .before .before .before .before .before .before .before
 
 -- from the end: the step, the header and the test
-abbrev taken : tie.After-slice-known35 → tie.After-take
-taken c = c .before .before .before .before .before .before .before .before .before .before .before .before .before .before .before .before .before .before .before .before .before .before .before .before .before .before .before .before .before .before
+abbrev taken : tie.After-slice-known32 → tie.After-take
+taken c = c .before .before .before .before .before .before .before .before .before .before .before .before .before .before .before .before .before .before .before .before .before .before .before .before .before .before .before .before
 
-abbrev headed : tie.After-slice-known35 → tie.After-load-header
-headed c = c .before .before .before .before .before .before .before .before .before .before .before .before .before .before .before .before .before .before .before .before .before .before .before .before .before .before .before .before .before .before .before .before .before .before .before .before .before .before .before .before .before .before .before .before
+abbrev headed : tie.After-slice-known32 → tie.After-load-header
+headed c = c .before .before .before .before .before .before .before .before .before .before .before .before .before .before .before .before .before .before .before .before .before .before .before .before .before .before .before .before .before .before .before .before .before .before .before .before .before .before .before .before .before
 
-abbrev loaded : tie.After-slice-known35 → tie.After-sound
-loaded c = c .before .before .before .before .before .before .before .before .before .before .before .before .before .before .before .before .before .before .before .before .before .before .before .before .before .before .before .before .before .before .before .before .before .before .before .before .before .before .before .before .before .before .before .before .before .before .before .before .before .before .before .before .before .before .before .before .before .before .before .before .before .before .before .before .before .before .before .before .before
+abbrev loaded : tie.After-slice-known32 → tie.After-sound
+loaded c = c .before .before .before .before .before .before .before .before .before .before .before .before .before .before .before .before .before .before .before .before .before .before .before .before .before .before .before .before .before .before .before .before .before .before .before .before .before .before .before .before .before .before .before .before .before .before .before .before .before .before .before .before .before .before .before .before .before .before .before .before .before .before .before .before
 
 -- past the test the area is sound
-is-sound : (e : tie.Else1) → let s = passed e .before .before .before .before .before .before .before .before .before .before .before .before .before .before .before .before .before .before .before .before .before .before .before .before .before in sound (limitsOf (s .args .lim)) (now (s .args .area)) ≡ true
+is-sound : (e : tie.Else1) → let s = passed e .before .before .before .before .before .before .before .before .before .before .before .before .before .before .before .before .before .before .before .before .before .before .before in sound (limitsOf (s .args .lim)) (now (s .args .area)) ≡ true
 is-sound e = sym (passed e .sound .ensures .0) ∙ not-false _ (e .if1 .left)
 
 -- and its state is loaded
 is-read : (h : tie.After-load-header) →
     let t = passed (h .before .before) in
-    let s = t .before .before .before .before .before .before .before .before .before .before .before .before .before .before .before .before .before .before .before .before .before .before .before .before .before in
+    let s = t .before .before .before .before .before .before .before .before .before .before .before .before .before .before .before .before .before .before .before .before .before .before .before in
     Read (limitsOf (s .args .lim)) (now (s .args .area)) (held (h .load-header .result) (t .sound .last .0) (t .sound .last .1 .0) (t .sound .last .1 .1 .0) (take (entryRowWords * h .load-header .result .capacity) (t .sound .last .1 .1 .1 .1 .0)))
     (t .sound .last .1 .1 .1 .1 .1 .0) (t .sound .last .1 .1 .1 .1 .1 .1 .0) (t .sound .last .1 .1 .1 .1 .1 .1 .1 .0)
 is-read h =
@@ -67,17 +67,17 @@ slice-aggregate-es c = sym (length-take-le _ _ (slice-relend-prefix-es (c .befor
 
 take-requires : tie.Need-take-requires
 take-requires c κs =
-    let h = c .before .before .before .before .before .before .before .before .before .before .before .before .before in
+    let h = c .before .before .before .before .before .before .before .before .before .before .before .before in
     let t = passed (h .before .before) in
     let kept = t .sound .kept in
-    let s = t .before .before .before .before .before .before .before .before .before .before .before .before .before .before .before .before .before .before .before .before .before .before .before .before .before in
-    (s .pre .0, (is-read h .ready, lent-kept (s .pre .1 .1) (kept .1 .1 .1 .1 .1 .0) (kept .1 .1 .1 .1 .1 .1 .0) (kept .1 .1 .1 .1 .1 .1 .1 .0) (kept .1 .1 .1 .1 .1 .1 .1 .1 .1 .0) (kept .1 .1 .1 .1 .1 .1 .1 .1 .1 .1 .0) (kept .1 .1 .1 .1 .1 .1 .1 .1 .1 .1 .1 .0) (kept .1 .1 .1 .1 .1 .1 .1 .1 .1 .1 .1 .1 .0)))
+    let s = t .before .before .before .before .before .before .before .before .before .before .before .before .before .before .before .before .before .before .before .before .before .before .before in
+    (s .pre .0, (is-read h .ready, lent-kept (s .pre .1 .1) (kept .1 .1 .1 .1 .1 .0) (kept .1 .1 .1 .1 .1 .1 .0) (kept .1 .1 .1 .1 .1 .1 .1 .0) (kept .1 .1 .1 .1 .1 .1 .1 .1 .1 .0) (kept .1 .1 .1 .1 .1 .1 .1 .1 .1 .1 .0) (kept .1 .1 .1 .1 .1 .1 .1 .1 .1 .1 .1 .0)))
 
 keep-requires : tie.Need-keep-requires
 keep-requires c κs =
-    let h = c .before .before .before .before .before .before .before .before .before .before .before .before .before .before .before .before .before .before .before .before .before .before .before .before .before .before .before .before .before .before .before .before .before .before .before .before .before .before .before in
+    let h = c .before .before .before .before .before .before .before .before .before .before .before .before .before .before .before .before .before .before .before .before .before .before .before .before .before .before .before .before .before .before .before .before .before .before .before .before in
     let e = h .before .before in
-    (passed e .before .before .before .before .before .before .before .before .before .before .before .before .before .before .before .before .before .before .before .before .before .before .before .before .before .pre .0, stored-fits _ _ _ (is-sound e) (is-read h .is-state), answer-sized _ _ _ _ _ (c .before .before .before .before .before .before .before .before .before .before .before .before .before .before .before .before .before .before .before .before .before .before .before .before .before .take .ensures))
+    (passed e .before .before .before .before .before .before .before .before .before .before .before .before .before .before .before .before .before .before .before .before .before .before .before .pre .0, stored-fits _ _ _ (is-sound e) (is-read h .is-state), answer-sized _ _ _ _ _ (c .before .before .before .before .before .before .before .before .before .before .before .before .before .before .before .before .before .before .before .before .before .before .before .take .ensures))
 
 returns-2 : tie.Need-returns-2
 returns-2 c =
@@ -101,7 +101,6 @@ step-spec =
     (λ c. tested c .sound .kept .1 .1 .1 .1 .1 .1 .1 .1 .1 .0)
     (λ c. tested c .sound .kept .1 .1 .1 .1 .1 .1 .1 .1 .1 .1 .0)
     (λ c. tested c .sound .kept .1 .1 .1 .1 .1 .1 .1 .1 .1 .1 .1 .0)
-    (λ c. tested c .sound .kept .1 .1 .1 .1 .1 .1 .1 .1 .1 .1 .1 .1 .0)
     returns
     load-header-requires
     (λ c. search needs)
@@ -121,5 +120,4 @@ step-spec =
     (λ c. taken c .take .kept .1 .1 .1 .1 .1 .1 .1 .1 .0 ∙ loaded c .sound .kept .1 .1 .1 .1 .1 .1 .1 .1 .1 .0)
     (λ c. taken c .take .kept .1 .1 .1 .1 .1 .1 .1 .1 .1 .0 ∙ loaded c .sound .kept .1 .1 .1 .1 .1 .1 .1 .1 .1 .1 .0)
     (λ c. taken c .take .kept .1 .1 .1 .1 .1 .1 .1 .1 .1 .1 .0 ∙ loaded c .sound .kept .1 .1 .1 .1 .1 .1 .1 .1 .1 .1 .1 .0)
-    (λ c. taken c .take .kept .1 .1 .1 .1 .1 .1 .1 .1 .1 .1 .1 .0 ∙ loaded c .sound .kept .1 .1 .1 .1 .1 .1 .1 .1 .1 .1 .1 .1 .0)
     returns-2)

@@ -2,16 +2,13 @@
 -- that each had its first place there, and the measure is the entries that are left. Assumes nothing.
 use mathlib.Core.Path.{_≡_, sym, _∙_}
 use Prim.Native.Nat.{_-_}
-use native.Mathlib.Omega.{arith}
 use borrow.Author.Count.{below-none, below-more}
 use borrow.Author.Needs.{needs}
 use borrow.Author.Tests.{eq-eqb, ne-eqb}
 use denote.Ref.{now}
-use lib.ListN.{length}
 use Rattle.layout.specs.Rows.{tableOf}
 use Rattle.layout.proofs.Rows.{length-tableOf}
 use Rattle.rows.proofs.Loops.{Passed}
-use Rattle.kinds.specs.Known.{Room}
 use Rattle.distinct.proofs.Places.{Filling, placeBy, filling-none, filled-place, push-room, filling-more}
 use Rattle.kinds.proofs.Rows.{entry-left, entry-right}
 use Rattle.distinct.proofs.Own.{ownPlace, all-distinct, not-distinct}
@@ -19,35 +16,29 @@ use Rattle.distinct.proofs.distinct_ok.Statement.{statement}
 use Rattle.distinct.proofs.distinct_ok.Tie as tie
 
 abbrev Inv-loop : tie.InvT-loop
-Inv-loop m entries lefts₀ rights₀ heads₀ next₀ i₀ lefts rights heads next i =
-    Filling (λ t. t) (tableOf entries m) lefts₀ rights₀ next₀ lefts rights heads next i × Passed (ownPlace entries m) i
+Inv-loop m entries lefts₀ rights₀ cells₀ i₀ lefts rights cells i =
+    Filling (λ t. t) (tableOf entries m) lefts₀ rights₀ cells₀ lefts rights cells i × Passed (ownPlace entries m) i
 
 abbrev μ-loop : tie.MeasureT-loop
-μ-loop m entries lefts₀ rights₀ heads₀ next₀ i₀ lefts rights heads next i = m - i
+μ-loop m entries lefts₀ rights₀ cells₀ i₀ lefts rights cells i = m - i
 
 -- the start of a turn, from its call, and of the function, from its loop
 abbrev turn : tie.After-push Inv-loop μ-loop → tie.In-loop Inv-loop μ-loop
-turn c = c .before .before .before .before .before .before .before
+turn c = c .before .before .before .before .before .before
 
 abbrev start : tie.At-loop Inv-loop μ-loop → tie.Start Inv-loop μ-loop
-start c = c .before .before .before .before .before .before .before .before .before .before
-
--- there is room for as many pairs as there are entries
-room : (c : tie.At-loop Inv-loop μ-loop) →
-    let a = start c .args in
-    Room (now (a .lefts)) (now (a .rights)) (now (a .heads)) (now (a .next)) (length (tableOf (now (a .entries)) (a .m)))
-room c = rw length-tableOf (start c .pre .1)
+start c = c .before .before .before .before .before .before .before .before .before
 
 loop-holds : tie.Need-loop-holds Inv-loop μ-loop
 loop-holds c =
-    let s = c .before .before .before .before .before .before .before .before .before in
-    (filling-none _ _ _ _ _ _ (c .before .before .clear .ensures) (s .pre .1 .words), below-none _)
+    let cleared = c .before .before .clear in
+    (filling-none _ _ (length-tableOf _ _) (c .before .before .before .before .before .before .before .before .pre .1) (cleared .ensures) (cleared .kept .0), below-none _)
 
 push-requires : tie.Need-push-requires Inv-loop μ-loop
 push-requires c κs =
-    let t = c .before .before .before .before .before .before in
+    let t = c .before .before .before .before .before in
     let h = t .before .loop .inv .0 in
-    (h .filled .indexed, push-room _ _ (room (t .before)) (rw length-tableOf (t .loop-test .taken)) h)
+    (h .filled .indexed, push-room _ _ (rw length-tableOf (t .loop-test .taken)) h)
 
 -- what the call answers
 place : (c : tie.After-push Inv-loop μ-loop) →
@@ -60,51 +51,43 @@ place c =
 
 same-length : tie.Need-same-length Inv-loop μ-loop
 same-length c =
-    let p = c .before .before .before .before .before .before .before .before .before in
+    let p = c .before .before .before .before .before .before .before in
     p .push .kept .0 ∙ turn p .before .loop .inv .0 .lefts-size
 
 same-length-2 : tie.Need-same-length-2 Inv-loop μ-loop
 same-length-2 c =
-    let p = c .before .before .before .before .before .before .before .before .before in
+    let p = c .before .before .before .before .before .before .before in
     p .push .kept .1 .0 ∙ turn p .before .loop .inv .0 .rights-size
 
 same-length-3 : tie.Need-same-length-3 Inv-loop μ-loop
 same-length-3 c =
-    let p = c .before .before .before .before .before .before .before .before .before in
-    omega (arith, p .push .ensures .indexed .all-heads, room (turn p .before) .all-heads)
-
-same-length-4 : tie.Need-same-length-4 Inv-loop μ-loop
-same-length-4 c =
-    let p = c .before .before .before .before .before .before .before .before .before in
-    p .push .kept .1 .1 .1 .0 ∙ turn p .before .loop .inv .0 .next-size
+    let p = c .before .before .before .before .before .before .before in
+    p .push .kept .1 .1 .0 ∙ turn p .before .loop .inv .0 .cells-size ∙ turn p .before .before .before .before .clear .kept .0
 
 returns : tie.Need-returns Inv-loop μ-loop
 returns c =
-    let p = c .before .before .before .before .before .before .before .before .before in
+    let p = c .before .before .before .before .before .before .before in
     not-distinct _ _ _ (turn p .loop-test .taken) (ne-eqb _ _ (λ e. c .if1 .taken (place p ∙ e)))
 
 loop-again : tie.Need-loop-again Inv-loop μ-loop
 loop-again c =
-    let p = c .before .before .before .before .before .before .before .before .before in
+    let p = c .before .before .before .before .before .before .before in
     let t = turn p in
     let l = t .loop-test .taken in
     let h = t .before .loop .inv in (
-      filling-more _ _ (room (t .before)) (rw length-tableOf l) (h .0) (p .push .ensures) (p .push .kept .1 .1 .1 .0)
+      filling-more _ _ (rw length-tableOf l) (h .0) (p .push .ensures) (p .push .kept .1 .1 .0)
           (sym (entry-left _ _ _ l)) (sym (entry-right _ _ _ l)),
       below-more _ _ (h .1) (eq-eqb _ _ (sym (place p) ∙ c .if1 .left)),
     )
 
+same-length-4 : tie.Need-same-length-4 Inv-loop μ-loop
+same-length-4 c = c .before .loop .inv .0 .lefts-size
+
 same-length-5 : tie.Need-same-length-5 Inv-loop μ-loop
-same-length-5 c = c .before .loop .inv .0 .lefts-size
+same-length-5 c = c .before .loop .inv .0 .rights-size
 
 same-length-6 : tie.Need-same-length-6 Inv-loop μ-loop
-same-length-6 c = c .before .loop .inv .0 .rights-size
-
-same-length-7 : tie.Need-same-length-7 Inv-loop μ-loop
-same-length-7 c = omega (arith, c .before .loop .inv .0 .filled .indexed .all-heads, room (c .before) .all-heads)
-
-same-length-8 : tie.Need-same-length-8 Inv-loop μ-loop
-same-length-8 c = c .before .loop .inv .0 .next-size
+same-length-6 c = c .before .loop .inv .0 .cells-size ∙ c .before .before .before .before .clear .kept .0
 
 returns-2 : tie.Need-returns-2 Inv-loop μ-loop
 returns-2 c = all-distinct _ _ _ (c .loop-test .left) (c .before .loop .inv .1)
@@ -127,13 +110,11 @@ distinct-ok-spec =
     same-length
     same-length-2
     same-length-3
-    same-length-4
     returns
     (λ c. search needs)
     (λ c. search needs)
     loop-again
+    same-length-4
     same-length-5
     same-length-6
-    same-length-7
-    same-length-8
     returns-2)

@@ -14,7 +14,7 @@ use Rattle.model.specs.Area.{entryRowWords}
 use Rattle.layout.specs.Rows.{at, tableOf}
 use Rattle.layout.proofs.Rows.{length-tableOf}
 use Rattle.rows.proofs.Loops.{Passed, each-passed, one-failed}
-use Rattle.kinds.specs.Known.{Named, Room}
+use Rattle.kinds.specs.Known.{Named}
 use Rattle.entries.specs.Tests.{sameAsRight}
 use Rattle.distinct.proofs.Places.{Filling, placeBy, filling-none, filled-place, push-room, filling-more}
 use Rattle.kinds.proofs.Rows.{entry-left, entry-right, left-lt, right-lt}
@@ -23,30 +23,24 @@ use Rattle.entries.proofs.same_as_ok.Statement.{statement}
 use Rattle.entries.proofs.same_as_ok.Tie as tie
 
 abbrev Inv-loop : tie.InvT-loop
-Inv-loop names entries m lefts₀ rights₀ heads₀ next₀ i₀ lefts rights heads next i =
-    Filling (at names) (tableOf entries m) lefts₀ rights₀ next₀ lefts rights heads next i
+Inv-loop names entries m lefts₀ rights₀ cells₀ i₀ lefts rights cells i =
+    Filling (at names) (tableOf entries m) lefts₀ rights₀ cells₀ lefts rights cells i
     × ((b : Book) (β : Bindings) → Named b β names entries m → Passed (λ j. sameAsRight b β (tableOf entries m) (entry (tableOf entries m) j)) i)
 
 abbrev μ-loop : tie.MeasureT-loop
-μ-loop names entries m lefts₀ rights₀ heads₀ next₀ i₀ lefts rights heads next i = m - i
+μ-loop names entries m lefts₀ rights₀ cells₀ i₀ lefts rights cells i = m - i
 
 -- the start of a turn, from its call, and of the function, from its loop
 abbrev turn : tie.After-push Inv-loop μ-loop → tie.In-loop Inv-loop μ-loop
-turn c = c .before .before .before .before .before .before .before .before .before
+turn c = c .before .before .before .before .before .before .before .before
 
 abbrev start : tie.At-loop Inv-loop μ-loop → tie.Start Inv-loop μ-loop
-start c = c .before .before .before .before .before .before .before .before .before .before .before
-
--- there is room for as many pairs as there are entries
-room : (c : tie.At-loop Inv-loop μ-loop) →
-    let a = start c .args in
-    Room (now (a .lefts)) (now (a .rights)) (now (a .heads)) (now (a .next)) (length (tableOf (now (a .entries)) (a .m)))
-room c = rw length-tableOf (start c .pre .1)
+start c = c .before .before .before .before .before .before .before .before .before .before
 
 loop-holds : tie.Need-loop-holds Inv-loop μ-loop
 loop-holds c =
-    let s = c .before .before .before .before .before .before .before .before .before .before in
-    (filling-none _ _ _ _ _ _ (c .before .before .clear .ensures) (s .pre .1 .words), λ b β k. below-none _)
+    let cleared = c .before .before .clear in
+    (filling-none _ _ (length-tableOf _ _) (c .before .before .before .before .before .before .before .before .before .pre .1) (cleared .ensures) (cleared .kept .0), λ b β k. below-none _)
 
 -- the sides are terms
 left-term : (c : tie.In-loop Inv-loop μ-loop) →
@@ -69,33 +63,33 @@ cast-right c =
 
 mul-push : tie.Need-mul-push Inv-loop μ-loop
 mul-push c =
-    let t = c .before .before .before .before .before .before in
+    let t = c .before .before .before .before .before in
     omega (arith, left-term t, start (t .before) .pre .0 .known .names-fit)
 
 shared-slice-read-push : tie.Need-shared-slice-read-push Inv-loop μ-loop
 shared-slice-read-push c =
-    let t = c .before .before .before .before .before .before .before in
+    let t = c .before .before .before .before .before .before in
     omega (arith, left-term t, start (t .before) .pre .0 .known .names-fit)
 
 mul-push-2 : tie.Need-mul-push-2 Inv-loop μ-loop
 mul-push-2 c =
-    let t = c .before .before .before .before .before .before .before in
+    let t = c .before .before .before .before .before .before in
     omega (arith, right-term t, start (t .before) .pre .0 .known .names-fit)
 
 shared-slice-read-push-2 : tie.Need-shared-slice-read-push-2 Inv-loop μ-loop
 shared-slice-read-push-2 c =
-    let t = c .before .before .before .before .before .before .before .before in
+    let t = c .before .before .before .before .before .before .before in
     omega (arith, right-term t, start (t .before) .pre .0 .known .names-fit)
 
 push-requires : tie.Need-push-requires Inv-loop μ-loop
 push-requires c κs =
-    let t = c .before .before .before .before .before .before .before .before in
+    let t = c .before .before .before .before .before .before .before in
     let h = t .before .loop .inv .0 in
-    (h .filled .indexed, push-room _ _ (room (t .before)) (rw length-tableOf (t .loop-test .taken)) h)
+    (h .filled .indexed, push-room _ _ (rw length-tableOf (t .loop-test .taken)) h)
 
 cast-if1 : tie.Need-cast-if1 Inv-loop μ-loop
 cast-if1 c =
-    let i = c .before .before .before .before .before .before .before .before .before .before .before .before .before .before .before .before .before .before .before .loop .i in
+    let i = c .before .before .before .before .before .before .before .before .before .before .before .before .before .before .before .before .loop .i in
     omega (arith, c .shared-slice-known7 .given (entryRowWords * i + entryRowWords - 1))
 
 -- what the call answers
@@ -111,53 +105,45 @@ place c =
 
 same-length : tie.Need-same-length Inv-loop μ-loop
 same-length c =
-    let p = c .before .before .before .before .before .before .before .before .before .before in
+    let p = c .before .before .before .before .before .before .before .before in
     p .push .kept .0 ∙ turn p .before .loop .inv .0 .lefts-size
 
 same-length-2 : tie.Need-same-length-2 Inv-loop μ-loop
 same-length-2 c =
-    let p = c .before .before .before .before .before .before .before .before .before .before in
+    let p = c .before .before .before .before .before .before .before .before in
     p .push .kept .1 .0 ∙ turn p .before .loop .inv .0 .rights-size
 
 same-length-3 : tie.Need-same-length-3 Inv-loop μ-loop
 same-length-3 c =
-    let p = c .before .before .before .before .before .before .before .before .before .before in
-    omega (arith, p .push .ensures .indexed .all-heads, room (turn p .before) .all-heads)
-
-same-length-4 : tie.Need-same-length-4 Inv-loop μ-loop
-same-length-4 c =
-    let p = c .before .before .before .before .before .before .before .before .before .before in
-    p .push .kept .1 .1 .1 .0 ∙ turn p .before .loop .inv .0 .next-size
+    let p = c .before .before .before .before .before .before .before .before in
+    p .push .kept .1 .1 .0 ∙ turn p .before .loop .inv .0 .cells-size ∙ turn p .before .before .before .before .clear .kept .0
 
 returns : tie.Need-returns Inv-loop μ-loop
 returns c b β k =
-    let p = c .before .before .before .before .before .before .before .before .before .before in
+    let p = c .before .before .before .before .before .before .before .before in
     let l = turn p .loop-test .taken in
     sym (one-failed _ _ (holeAt 0 0 0) _ (rw length-tableOf l) (same-as-place k l ∙ ne-eqb _ _ (λ e. c .if1 .taken (place p ∙ sym e))))
 
 loop-again : tie.Need-loop-again Inv-loop μ-loop
 loop-again c =
-    let p = c .before .before .before .before .before .before .before .before .before .before in
+    let p = c .before .before .before .before .before .before .before .before in
     let t = turn p in
     let l = t .loop-test .taken in
     let f = at (now (start (t .before) .args .names)) in
     let h = t .before .loop .inv in (
-      filling-more _ _ (room (t .before)) (rw length-tableOf l) (h .0) (p .push .ensures) (p .push .kept .1 .1 .1 .0)
+      filling-more _ _ (rw length-tableOf l) (h .0) (p .push .ensures) (p .push .kept .1 .1 .0)
           (ap f (sym (entry-left _ _ _ l))) (ap f (sym (entry-right _ _ _ l))),
       λ b β k. below-more _ _ (h .1 b β k) (same-as-place k l ∙ eq-eqb _ _ (sym (c .if1 .left) ∙ place p)),
     )
 
+same-length-4 : tie.Need-same-length-4 Inv-loop μ-loop
+same-length-4 c = c .before .loop .inv .0 .lefts-size
+
 same-length-5 : tie.Need-same-length-5 Inv-loop μ-loop
-same-length-5 c = c .before .loop .inv .0 .lefts-size
+same-length-5 c = c .before .loop .inv .0 .rights-size
 
 same-length-6 : tie.Need-same-length-6 Inv-loop μ-loop
-same-length-6 c = c .before .loop .inv .0 .rights-size
-
-same-length-7 : tie.Need-same-length-7 Inv-loop μ-loop
-same-length-7 c = omega (arith, c .before .loop .inv .0 .filled .indexed .all-heads, room (c .before) .all-heads)
-
-same-length-8 : tie.Need-same-length-8 Inv-loop μ-loop
-same-length-8 c = c .before .loop .inv .0 .next-size
+same-length-6 c = c .before .loop .inv .0 .cells-size ∙ c .before .before .before .before .clear .kept .0
 
 returns-2 : tie.Need-returns-2 Inv-loop μ-loop
 returns-2 c b β k = sym (each-passed _ _ (holeAt 0 0 0) _ (rw length-tableOf (c .loop-test .left)) (c .before .loop .inv .1 b β k))
@@ -191,13 +177,11 @@ same-as-ok-spec =
     same-length
     same-length-2
     same-length-3
-    same-length-4
     returns
     (λ c. search needs)
     (λ c. search needs)
     loop-again
+    same-length-4
     same-length-5
     same-length-6
-    same-length-7
-    same-length-8
     returns-2)

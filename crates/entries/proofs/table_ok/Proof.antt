@@ -2,7 +2,7 @@
 use mathlib.Core.Path.{sym, _∙_}
 use borrow.Author.Needs.{needs}
 use borrow.Author.Tests.{not-true, not-false}
-use Rattle.kinds.proofs.Room.{room-kept}
+use Rattle.pairs.proofs.Rooms.{room-kept}
 use Rattle.entries.proofs.Table.{table-values}
 use Rattle.entries.proofs.table_ok.Statement.{statement}
 use Rattle.entries.proofs.table_ok.Tie as tie
@@ -14,8 +14,8 @@ returns c b β k = rw (table-values b β _, sym (c .before .kinds-ok .ensures b 
 -- a same-as is wrong
 returns-2 : tie.Need-returns-2
 returns-2 c b β k =
-    let called = c .before .before .before .before .before .before .before .before .before in
-    let first = called .before .before .before .before .before in
+    let called = c .before .before .before .before .before .before .before in
+    let first = called .before .before .before .before in
     rw (
       table-values b β _,
       sym (first .before .kinds-ok .ensures b β k) ∙ not-false _ (first .if1 .left),
@@ -24,25 +24,25 @@ returns-2 c b β k =
 
 distinct-ok-requires : tie.Need-distinct-ok-requires
 distinct-ok-requires c κs =
-    let called = c .before .before .before .before .before .before .before .before .before .before .before .before .before in
-    let s = called .before .before .before .before .before .before .before .before .before .before .before .before .before .before .before .pre in
+    let called = c .before .before .before .before .before .before .before .before .before .before in
+    let s = called .before .before .before .before .before .before .before .before .before .before .before .before .before .pre in
     let kept = called .same-as-ok .kept in (
       s .0 .known .held .named .entries-fit,
-      room-kept (s .1) (kept .1 .1 .1 .0) (kept .1 .1 .1 .1 .0) (kept .1 .1 .1 .1 .1 .0) (kept .1 .1 .1 .1 .1 .1 .0),
+      room-kept (s .1) (kept .1 .1 .1 .0) (kept .1 .1 .1 .1 .0) (kept .1 .1 .1 .1 .1 .0),
     )
 
 -- no kind and no same-as is wrong
 returns-3 : tie.Need-returns-3
 returns-3 c b β k =
-    let second = c .before .before .before .before .before .before .before .before .before .before .before .before .before in
-    let called = second .before .before .before .before .before .before .before .before .before in
-    let first = called .before .before .before .before .before in
+    let second = c .before .before .before .before .before .before .before .before .before .before in
+    let called = second .before .before .before .before .before .before .before in
+    let first = called .before .before .before .before in
     rw (
       table-values b β _,
       sym (first .before .kinds-ok .ensures b β k) ∙ not-false _ (first .if1 .left),
       sym (called .same-as-ok .ensures b β (k .held .named)) ∙ not-false _ (second .if2 .left),
     )
-    (c .before .before .before .before .before .before .before .before .distinct-ok .ensures)
+    (c .before .before .before .before .before .before .distinct-ok .ensures)
 
 pub table-ok-spec : {M : Type 1} → statement M
 table-ok-spec =
@@ -54,10 +54,8 @@ table-ok-spec =
     (λ c. search needs)
     (λ c. search needs)
     (λ c. search needs)
-    (λ c. search needs)
     returns-2
     distinct-ok-requires
-    (λ c. search needs)
     (λ c. search needs)
     (λ c. search needs)
     (λ c. search needs)

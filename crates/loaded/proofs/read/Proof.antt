@@ -5,7 +5,7 @@ use Rattle.loaded.proofs.read.Tie as tie
 
 returns : tie.Need-returns
 returns c =
-    let t = c .before .before .before .before .before .before .before .before .before .before .before .before .before .before .before .sound in (
+    let t = c .before .before .before .before .before .before .before .before .before .before .before .before .before .before .sound in (
       t .ensures .0,
       λ h. record {
         bindings = t .last .1 .0;
@@ -19,7 +19,6 @@ pub read-spec : {M : Type 1} → statement M
 read-spec =
     tie.close
     (tie.spec
-    (λ c. search needs)
     (λ c. search needs)
     (λ c. search needs)
     (λ c. search needs)

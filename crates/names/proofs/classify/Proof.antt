@@ -1,5 +1,6 @@
 -- `names::classify` meets its contract: after `k` terms of the list each of those has its class. The measure is the terms that are
 -- left. Assumes nothing.
+use mathlib.Core.Path.{_∙_}
 use Prim.Native.Nat.{_-_}
 use native.Mathlib.Omega.{arith}
 use Rattle.values.proofs.Settled.{next-term, next-fits}
@@ -9,24 +10,24 @@ use Rattle.names.proofs.classify.Statement.{statement}
 use Rattle.names.proofs.classify.Tie as tie
 
 abbrev Inv-loop : tie.InvT-loop
-Inv-loop rows bindings list n lefts₀ rights₀ heads₀ next₀ classes₀ k₀ lefts rights heads next classes k =
-    Classifying rows bindings list n classes₀ lefts₀ rights₀ next₀ classes lefts rights heads next k
+Inv-loop rows bindings list n lefts₀ rights₀ cells₀ classes₀ k₀ lefts rights cells classes k =
+    Classifying rows bindings list n classes₀ lefts₀ rights₀ cells₀ classes lefts rights cells k
 
 abbrev μ-loop : tie.MeasureT-loop
-μ-loop rows bindings list n lefts₀ rights₀ heads₀ next₀ classes₀ k₀ lefts rights heads next classes k = n - k
+μ-loop rows bindings list n lefts₀ rights₀ cells₀ classes₀ k₀ lefts rights cells classes k = n - k
 
 -- the pair pushed from the turn's end, and the loop's test from there
 abbrev pushed : tie.After-class-of Inv-loop μ-loop → tie.After-push Inv-loop μ-loop
-pushed c = c .before .before .before .before .before .before .before .before .before .before
+pushed c = c .before .before .before .before .before .before .before .before
 
 abbrev turn : tie.After-push Inv-loop μ-loop → tie.In-loop Inv-loop μ-loop
-turn c = c .before .before .before .before .before .before .before .before
+turn c = c .before .before .before .before .before .before .before
 
 clear-requires : tie.Need-clear-requires Inv-loop μ-loop
-clear-requires c κs = c .before .before .before .before .before .before .before .before .before .pre .0 .all-heads
+clear-requires c κs = omega (arith, c .before .before .before .before .before .before .before .before .pre .0 .room .cells-fit)
 
 loop-holds : tie.Need-loop-holds Inv-loop μ-loop
-loop-holds c = let pre = c .before .before .before .before .before .before .before .before .before .before .before .before .pre in classifying-none (pre .1) (pre .0) (c .before .before .clear .ensures)
+loop-holds c = let pre = c .before .before .before .before .before .before .before .before .before .before .before .pre in classifying-none (pre .1) (pre .0) (c .before .before .clear .ensures) (c .before .before .clear .kept .0)
 
 mul-t : tie.Need-mul-t Inv-loop μ-loop
 mul-t c = omega arith
@@ -44,12 +45,12 @@ cast-low : tie.Need-cast-low Inv-loop μ-loop
 cast-low c = record { fits = halves (c .key-hash .result) (omega arith) .0 }
 
 push-requires : tie.Need-push-requires Inv-loop μ-loop
-push-requires c κs = (c .before .before .before .before .before .before .before .before .loop .inv .indexed, next-room (c .before .before .before .before .before .before .before .before .loop .inv) (c .before .before .before .before .before .before .before .loop-test .taken))
+push-requires c κs = (c .before .before .before .before .before .before .before .loop .inv .indexed, next-room (c .before .before .before .before .before .before .before .loop .inv) (c .before .before .before .before .before .before .loop-test .taken))
 
 class-of-requires : tie.Need-class-of-requires Inv-loop μ-loop
 class-of-requires c κs =
-    let call = c .before .before .before .before .before .before .before .before .before in
-    next-classable (turn call .before .loop .inv) (turn call .loop-test .taken) (c .before .before .before .before .before .before .before .before .before .before .before .before .before .before .key-hash .ensures) (call .push .ensures)
+    let call = c .before .before .before .before .before .before .before in
+    next-classable (turn call .before .loop .inv) (turn call .loop-test .taken) (c .before .before .before .before .before .before .before .before .before .before .before .key-hash .ensures) (call .push .ensures)
 
 cast-classes : tie.Need-cast-classes Inv-loop μ-loop
 cast-classes c = omega (arith, next-term (turn (pushed c) .before .loop .inv .filled) (turn (pushed c) .loop-test .taken))
@@ -69,7 +70,7 @@ loop-less c = omega (arith, turn (pushed c) .loop-test .taken)
 loop-again : tie.Need-loop-again Inv-loop μ-loop
 loop-again c =
     let call = pushed c in
-    classifying-more (turn call .before .loop .inv) (turn call .loop-test .taken) (c .before .before .before .before .before .before .before .before .before .before .before .before .before .before .before .key-hash .ensures) (call .push .ensures) (call .push .kept .1 .1 .1 .0) (c .class-of .ensures)
+    classifying-more (turn call .before .loop .inv) (turn call .loop-test .taken) (c .before .before .before .before .before .before .before .before .before .before .before .before .key-hash .ensures) (call .push .ensures) (call .push .kept .1 .1 .0) (c .class-of .ensures)
 
 same-length : tie.Need-same-length Inv-loop μ-loop
 same-length c = c .before .loop .inv .left-size
@@ -78,13 +79,10 @@ same-length-2 : tie.Need-same-length-2 Inv-loop μ-loop
 same-length-2 c = c .before .loop .inv .right-size
 
 same-length-3 : tie.Need-same-length-3 Inv-loop μ-loop
-same-length-3 c = omega (arith, c .before .loop .inv .indexed .all-heads, c .before .before .before .before .before .before .before .before .before .before .before .before .before .before .pre .0 .all-heads)
+same-length-3 c = c .before .loop .inv .cells-size ∙ c .before .before .before .before .clear .kept .0
 
 same-length-4 : tie.Need-same-length-4 Inv-loop μ-loop
-same-length-4 c = c .before .loop .inv .next-size
-
-same-length-5 : tie.Need-same-length-5 Inv-loop μ-loop
-same-length-5 c = c .before .loop .inv .filled .size
+same-length-4 c = c .before .loop .inv .filled .size
 
 returns : tie.Need-returns Inv-loop μ-loop
 returns c = classified (c .before .loop .inv) (c .loop-test .left)
@@ -114,5 +112,4 @@ classify-spec =
     same-length-2
     same-length-3
     same-length-4
-    same-length-5
     returns)

@@ -7,20 +7,20 @@ use Rattle.names.proofs.names.Tie as tie
 
 -- the first call from the second, and the second from the end
 abbrev classified : tie.After-lowest-of-class-arg3 → tie.After-classify
-classified c = c .before .before .before .before .before .before .before .before .before .before .before .before .before
+classified c = c .before .before .before .before .before .before .before .before .before .before .before
 
-abbrev named : tie.After-slice-known13 → tie.After-lowest-of-class
+abbrev named : tie.After-slice-known11 → tie.After-lowest-of-class
 named c = c .before .before .before .before
 
 classify-requires : tie.Need-classify-requires
-classify-requires c κs = let pre = c .before .before .before .before .before .before .before .before .before .before .before .before .before .before .pre in (pre .1 .0, pre .0)
+classify-requires c κs = let pre = c .before .before .before .before .before .before .before .before .before .before .before .before .pre in (pre .1 .0, pre .0)
 
 lowest-of-class-requires : tie.Need-lowest-of-class-requires
 lowest-of-class-requires c κs =
     let call = classified c .classify in
-    let pre = classified c .before .before .before .before .before .before .before .before .before .before .before .before .before .before .before .pre in
+    let pre = classified c .before .before .before .before .before .before .before .before .before .before .before .before .before .pre in
     let slices = call .kept .1 .1 .1 .1 in
-    counted (pre .1 .0) (pre .1 .1) (call .ensures) (slices .0) (slices .1 .1 .1 .1 .0)
+    counted (pre .1 .0) (pre .1 .1) (call .ensures) (slices .0) (slices .1 .1 .1 .0)
 
 same-length : tie.Need-same-length
 same-length c = named c .lowest-of-class .kept .1 .1 .0 ∙ classified (named c .before) .classify .kept .1 .1 .1 .1 .0
@@ -35,10 +35,7 @@ same-length-4 : tie.Need-same-length-4
 same-length-4 c = classified (named c .before) .classify .kept .1 .1 .1 .1 .1 .1 .1 .0
 
 same-length-5 : tie.Need-same-length-5
-same-length-5 c = classified (named c .before) .classify .kept .1 .1 .1 .1 .1 .1 .1 .1 .0
-
-same-length-6 : tie.Need-same-length-6
-same-length-6 c = named c .lowest-of-class .kept .1 .1 .1 .0
+same-length-5 c = named c .lowest-of-class .kept .1 .1 .1 .0
 
 returns : tie.Need-returns
 returns c = names-found _ _ _ _ _ _ (classified (named c .before) .classify .ensures) (named c .lowest-of-class .ensures)
@@ -54,5 +51,4 @@ names-spec =
     same-length-3
     same-length-4
     same-length-5
-    same-length-6
     returns)

@@ -1,32 +1,39 @@
 -- `pairs::push` meets its contract: the pair was there, or it was not and the cell at which the search ended gets the link to its place.
 -- Assumes nothing.
-use mathlib.Core.Path.{_∙_}
+use native.Mathlib.Omega.{arith}
 use lib.ListN.{length-set}
 use borrow.Author.Needs.{needs}
-use Rattle.pairs.proofs.Growth.{put-asks, pushed-there, pushed-new}
+use Rattle.pairs.proofs.Growth.{end-fits, pushed-there, pushed-new}
 use Rattle.pairs.proofs.push.Statement.{statement}
 use Rattle.pairs.proofs.push.Tie as tie
 
 -- the function's entry, from the search
 abbrev start : tie.After-search → tie.Start
-start c = c .before .before .before .before .before .before .before .before .before
+start c = c .before .before .before .before .before .before .before
 
-put-requires : tie.Need-put-requires
-put-requires c κs =
-    let test = c .before .before in
-    let s = test .before .before in
-    put-asks (start s .pre .0) (start s .pre .1) (s .search .ensures) (test .if1 .taken)
+-- the cells of the new place are there
+slice-write-cells : tie.Need-slice-write-cells
+slice-write-cells c = omega (arith, start c .pre .1 .cells-fit)
 
-same-length-4 : tie.Need-same-length-4
-same-length-4 c = c .before .before .before .before .put .kept .1 .0 ∙ simp length-set
+slice-write-cells-2 : tie.Need-slice-write-cells-2
+slice-write-cells-2 c = rw length-set (omega (arith, start c .pre .1 .cells-fit))
+
+-- so is the one at which the search ended
+mul-cells-3 : tie.Need-mul-cells-3
+mul-cells-3 c =
+    let s = c .before .before in
+    let ix = start s .pre .0 in
+    omega (arith, s .search .ensures .ends (c .if1 .taken) .low, ix .room .lefts-fit, ix .room .words)
+
+slice-write-cells-3 : tie.Need-slice-write-cells-3
+slice-write-cells-3 c =
+    let s = c .before .before in
+    end-fits (start s .pre .0) (start s .pre .1) (s .search .ensures) (c .if1 .taken)
 
 returns : tie.Need-returns
 returns c =
-    let after = c .before .before .before .before in
-    let test = after .before .before .before in
-    let s = test .before .before in
-    pushed-new (start s .pre .0) (start s .pre .1) (s .search .ensures) (test .if1 .taken) _ _ (after .put .ensures)
-    (after .put .kept .0) (after .put .kept .1 .0)
+    let s = c .before .before in
+    pushed-new (start s .pre .0) (start s .pre .1) (s .search .ensures) (c .if1 .taken)
 
 returns-2 : tie.Need-returns-2
 returns-2 c =
@@ -45,19 +52,18 @@ push-spec =
     (λ c. search needs)
     (λ c. search needs)
     (λ c. search needs)
+    slice-write-cells
+    (λ c. search needs)
+    (λ c. search needs)
+    slice-write-cells-2
+    (λ c. search needs)
+    (λ c. search needs)
+    mul-cells-3
+    slice-write-cells-3
     (λ c. search needs)
     (λ c. search needs)
     (λ c. search needs)
-    (λ c. search needs)
-    (λ c. search needs)
-    (λ c. search needs)
-    put-requires
-    (λ c. search needs)
-    (λ c. search needs)
-    (λ c. search needs)
-    same-length-4
     returns
-    (λ c. search needs)
     (λ c. search needs)
     (λ c. search needs)
     (λ c. search needs)

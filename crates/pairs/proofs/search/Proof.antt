@@ -1,6 +1,5 @@
 -- `pairs::search` meets its contract. The loop's invariant: what is known of the cell that the search has come to. The measure is the
 -- number of cells behind it, since each link goes to later ones. Assumes nothing.
-use mathlib.Core.List.{_++_}
 use mathlib.Core.Logic.{⊎-elim}
 use Prim.Native.Nat.{_-_}
 use native.Mathlib.Omega.{arith}
@@ -12,17 +11,17 @@ use Rattle.pairs.proofs.search.Statement.{statement}
 use Rattle.pairs.proofs.search.Tie as tie
 
 abbrev Inv-loop : tie.InvT-loop
-Inv-loop a b lefts rights heads next count mixed way₀ cell₀ link₀ way cell link = Sought lefts rights (heads ++ next) count a b cell way link
+Inv-loop a b lefts rights cells count mixed way₀ cell₀ link₀ way cell link = Sought lefts rights cells count a b cell way link
 
 abbrev μ-loop : tie.MeasureT-loop
-μ-loop a b lefts rights heads next count mixed way₀ cell₀ link₀ way cell link = cellsOf count - cell
+μ-loop a b lefts rights cells count mixed way₀ cell₀ link₀ way cell link = cellsOf count - cell
 
 -- the function's entry, from the loop's head
 abbrev start : tie.At-loop Inv-loop μ-loop → tie.Start Inv-loop μ-loop
-start c = c .before .before .before .before .before .before .before
+start c = c .before .before .before .before .before .before
 
 loop-holds : tie.Need-loop-holds Inv-loop μ-loop
-loop-holds c = sought-head (c .before .before .before .before .before .before .pre) _ (c .before .hash .ensures)
+loop-holds c = sought-head (c .before .before .before .before .before .pre) _ (c .before .hash .ensures)
 
 loop-less : tie.Need-loop-less Inv-loop μ-loop
 loop-less c =

@@ -1,6 +1,6 @@
 -- `placing::place` meets its contract: each return follows the tests that lead there. Assumes nothing.
-use native.Mathlib.Omega.{arith}
 use borrow.Author.Needs.{needs}
+use Rattle.pairs.proofs.Rooms.{room-fewer}
 use Rattle.placing.proofs.Placing.{place-there, place-full, place-hole}
 use Rattle.placing.proofs.place.Statement.{statement}
 use Rattle.placing.proofs.place.Tie as tie
@@ -16,15 +16,13 @@ returns-2 c b β es q = place-full q (c .before .before .find .ensures) (c .befo
 -- it is appended
 push-requires : tie.Need-push-requires
 push-requires c κs =
-    let s = c .before .before .before .before .before .before .before .before .before .before .before .before .before .before .before .before .before .before .before .before .before .before .before .pre .known .stands in
-    let room = s .room in
-    let less = c .before .before .before .before .before .before .before .before .if2 .left in
-    (s .indexed, (omega arith, omega arith, omega arith))
+    let s = c .before .before .before .before .before .before .before .before .before .before .before .before .before .before .before .before .before .before .before .before .pre .known .stands in
+    (s .indexed, room-fewer (c .before .before .before .before .before .before .before .if2 .left) (s .room))
 
 returns-3 : tie.Need-returns-3
 returns-3 c b β es q =
-    place-hole q (c .before .before .before .before .before .before .before .before .before .before .before .before .before .before .before .before .before .before .before .find .ensures) (c .before .before .before .before .before .before .before .before .before .before .before .before .before .before .before .before .before .before .if1 .left) (c .before .before .before .before .before .before .before .before .before .before .before .before .before .before .before .before .before .if2 .left) (c .before .before .before .before .before .before .before .before .before .before .before .before .before .before .before .put-entry .ensures) (c .before .before .before .before .before .before .before .before .push .ensures)
-    (c .before .before .before .before .before .before .before .before .before .before .before .before .before .before .before .put-entry .kept .0) (c .before .before .before .before .before .before .before .before .push .kept .1 .1 .1 .0)
+    place-hole q (c .before .before .before .before .before .before .before .before .before .before .before .before .before .before .before .before .find .ensures) (c .before .before .before .before .before .before .before .before .before .before .before .before .before .before .before .if1 .left) (c .before .before .before .before .before .before .before .before .before .before .before .before .before .before .if2 .left) (c .before .before .before .before .before .before .before .before .before .before .before .before .put-entry .ensures) (c .before .before .before .before .before .before .push .ensures)
+    (c .before .before .before .before .before .before .before .before .before .before .before .before .put-entry .kept .0) (c .before .before .before .before .before .before .push .kept .1 .1 .0)
 
 pub place-spec : {M : Type 1} → statement M
 place-spec =
@@ -39,9 +37,7 @@ place-spec =
     (λ c. search needs)
     (λ c. search needs)
     (λ c. search needs)
-    (λ c. search needs)
     returns
-    (λ c. search needs)
     (λ c. search needs)
     (λ c. search needs)
     (λ c. search needs)
@@ -49,7 +45,6 @@ place-spec =
     (λ c. search needs)
     (λ c κs. search needs)
     push-requires
-    (λ c. search needs)
     (λ c. search needs)
     (λ c. search needs)
     (λ c. search needs)

@@ -8,20 +8,20 @@ use Rattle.sameas.proofs.settle.Statement.{statement}
 use Rattle.sameas.proofs.settle.Tie as tie
 
 abbrev Inv-loop : tie.InvT-loop
-Inv-loop entries₀ m lefts rights heads next i₀ entries i = Settling entries₀ lefts rights heads next m entries i
+Inv-loop entries₀ m lefts rights cells i₀ entries i = Settling entries₀ lefts rights cells m entries i
 
 abbrev μ-loop : tie.MeasureT-loop
-μ-loop entries₀ m lefts rights heads next i₀ entries i = m - i
+μ-loop entries₀ m lefts rights cells i₀ entries i = m - i
 
 loop-holds : tie.Need-loop-holds Inv-loop μ-loop
-loop-holds c = settling-none _ _ _ _ _ _
+loop-holds c = settling-none _ _ _ _ _
 
 cast-e : tie.Need-cast-e Inv-loop μ-loop
-cast-e c = omega (arith, same-as-word (c .before .before .before .before .before .before .before .before .before .before .before .before .pre .known) (c .before .before .before .before .before .loop-test .taken) (c .before .before .find .ensures))
+cast-e c = omega (arith, same-as-word (c .before .before .before .before .before .before .before .before .before .before .before .pre .known) (c .before .before .before .before .before .loop-test .taken) (c .before .before .find .ensures))
 
 put-entry-requires : tie.Need-put-entry-requires Inv-loop μ-loop
 put-entry-requires c κs =
-    let q = c .before .before .before .before .before .before .before .before .before .before .before .before .before .pre .known in
+    let q = c .before .before .before .before .before .before .before .before .before .before .before .before .pre .known in
     omega (arith, c .before .before .before .before .before .before .loop-test .taken, q .count, q .held .fits, c .before .before .before .before .before .before .before .loop .inv .size)
 
 loop-again : tie.Need-loop-again Inv-loop μ-loop

@@ -1,6 +1,6 @@
 -- `table::place_all` meets its contract: after `j` pairs the slices hold the table with those. The measure is the pairs that are
 -- left. Assumes nothing.
-use mathlib.Core.Path.{_≡_, sym, _∙_}
+use mathlib.Core.Path.{_≡_}
 use Prim.Native.Nat.{_+_, _*_, _-_, _<_}
 use native.Mathlib.Omega.{arith}
 use borrow.Author.Needs.{needs}
@@ -14,19 +14,19 @@ use Rattle.table.proofs.place_all.Statement.{statement}
 use Rattle.table.proofs.place_all.Tie as tie
 
 abbrev Inv-loop : tie.InvT-loop
-Inv-loop rows names entries₀ capacity m l r lefts₀ rights₀ heads₀ next₀ ls rs arity numbers₀ count₀ j₀ entries lefts rights heads next numbers count j =
-    PlacingAll names entries₀ lefts₀ rights₀ heads₀ next₀ capacity m (argumentsAt rows l) (argumentsAt rows r) entries lefts rights heads next numbers count j
+Inv-loop rows names entries₀ capacity m l r lefts₀ rights₀ cells₀ ls rs arity numbers₀ count₀ j₀ entries lefts rights cells numbers count j =
+    PlacingAll names entries₀ lefts₀ rights₀ cells₀ capacity m (argumentsAt rows l) (argumentsAt rows r) entries lefts rights cells numbers count j
 
 abbrev μ-loop : tie.MeasureT-loop
-μ-loop rows names entries₀ capacity m l r lefts₀ rights₀ heads₀ next₀ ls rs arity numbers₀ count₀ j₀ entries lefts rights heads next numbers count j =
+μ-loop rows names entries₀ capacity m l r lefts₀ rights₀ cells₀ ls rs arity numbers₀ count₀ j₀ entries lefts rights cells numbers count j =
     arity - j
 
 loop-holds : tie.Need-loop-holds Inv-loop μ-loop
-loop-holds c = placing-none _ _ _ _ _ _ _ _ _ _
+loop-holds c = placing-none _ _ _ _ _ _ _ _ _
 
 -- the start of the function, from a turn of its loop
 abbrev start : tie.In-loop Inv-loop μ-loop → tie.Start Inv-loop μ-loop
-start c = c .before .before .before .before .before .before .before .before .before .before
+start c = c .before .before .before .before .before .before .before .before .before
 
 -- there is a next pair, in the rows of both terms
 left-there : (c : tie.In-loop Inv-loop μ-loop) → c .before .loop .j < length (argumentsAt (now (start c .args .rows)) (start c .args .l))
@@ -65,34 +65,34 @@ shared-slice-read-place-2 c = let t = c .before .before .before in omega (arith,
 
 place-requires : tie.Need-place-requires Inv-loop μ-loop
 place-requires c κs =
-    let t = c .before .before .before .before .before .before .before in
+    let t = c .before .before .before .before .before .before in
     next-given (t .before .loop .inv) (left-there t) (left-word t) (right-word t) (start t .pre .0)
 
 -- a turn of the loop, from its call
 abbrev turn : tie.After-place Inv-loop μ-loop → tie.In-loop Inv-loop μ-loop
-turn c = c .before .before .before .before .before .before .before .before
+turn c = c .before .before .before .before .before .before .before
 
 returns : tie.Need-returns Inv-loop μ-loop
 returns c =
-    let called = c .before .before .before .before .before .before .before .before .before .before .before in
+    let called = c .before .before .before .before .before .before .before .before .before in
     let t = turn called in
     placing-full (t .before .loop .inv) (left-there t) (left-word t) (right-word t) (called .place .ensures) (c .if1 .taken)
 
 array-write-numbers : tie.Need-array-write-numbers Inv-loop μ-loop
-array-write-numbers c = let t = c .before .before .before .before .before .before .before .before .before .before .before .before .before .before .before .before .before .before .before in omega (arith, start t .pre .0 .known .few, left-there t)
+array-write-numbers c = let t = c .before .before .before .before .before .before .before .before .before .before .before .before .before .before .before .before in omega (arith, start t .pre .0 .known .few, left-there t)
 
 loop-again : tie.Need-loop-again Inv-loop μ-loop
 loop-again c =
-    let called = c .before .before .before .before .before .before .before .before .before .before .before in
+    let called = c .before .before .before .before .before .before .before .before .before in
     let t = turn called in
     let k = called .place .kept .1 in
     let a = k .1 .1 .1 .1 .1 in
     placing-more (t .before .loop .inv) (left-there t) (left-word t) (right-word t) (called .place .ensures) (c .if1 .left)
-    (record { entries-size = k .0; left-size = a .0; right-size = a .1 .0; heads-size = a .1 .1 .0; next-size = a .1 .1 .1 .0 })
+    (record { entries-size = k .0; left-size = a .0; right-size = a .1 .0; cells-size = a .1 .1 .0 })
 
 returns-2 : tie.Need-returns-2 Inv-loop μ-loop
 returns-2 c =
-    let s = c .before .before .before .before .before .before .before .before .before .before in
+    let s = c .before .before .before .before .before .before .before .before .before in
     placing-all (c .before .loop .inv) (omega (arith, length-row (now (s .args .rows)) (s .args .l) (s .pre .1 .0), c .loop-test .left))
 
 pub place-all-spec : {M : Type 1} → statement M
@@ -122,14 +122,12 @@ place-all-spec =
     (λ c. search needs)
     (λ c. search needs)
     (λ c. search needs)
-    (λ c. search needs)
     returns
     (λ c. search needs)
     array-write-numbers
     (λ c. search needs)
     (λ c. search needs)
     loop-again
-    (λ c. search needs)
     (λ c. search needs)
     (λ c. search needs)
     (λ c. search needs)

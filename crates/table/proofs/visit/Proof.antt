@@ -15,7 +15,7 @@ use Rattle.table.proofs.visit.Tie as tie
 
 -- the start, from the entry read, and that, from where the roots are alike
 abbrev start : tie.After-entry-at → tie.Start
-start c = c .before .before .before .before .before .before .before .before .before .before
+start c = c .before .before .before .before .before .before .before .before .before
 
 abbrev found : tie.Else2 → tie.After-entry-at
 found c = c .before .before .before .before .before .before .before .before
@@ -59,7 +59,7 @@ returns-2 c b β es q =
 -- roots that are alike
 place-all-requires : tie.Need-place-all-requires
 place-all-requires c κs =
-    let e = c .before .before .before .before .before in
+    let e = c .before .before .before .before in
     let g = start (found e) .pre in
     let read = found e .entry-at .ensures in
     let ready = turnable (g .known) _ read (sym (e .before .alike .ensures) ∙ not-false _ (e .if2 .left)) in
@@ -67,20 +67,20 @@ place-all-requires c κs =
 
 turn-requires : tie.Need-turn-requires
 turn-requires c κs =
-    let e = c .before .before .before .before .before .before .before .before .before .before .before .before .before .before .before .before .before in
+    let e = c .before .before .before .before .before .before .before .before .before .before .before .before .before .before in
     let q = start (found e) .pre .known in
     let read = found e .entry-at .ensures in
     record {
       applied = left-app (turnable q _ read (sym (e .before .alike .ensures) ∙ not-false _ (e .if2 .left)));
       term-row = omega (arith, left-end q _ read);
-      entry-row = omega (arith, q .there, few-entries (q .stands), q .stands .long, c .before .before .before .before .before .before .before .before .before .before .before .place-all .kept .1 .1 .0);
+      entry-row = omega (arith, q .there, few-entries (q .stands), q .stands .long, c .before .before .before .before .before .before .before .before .before .place-all .kept .1 .1 .0);
     }
 
 returns-3 : tie.Need-returns-3
 returns-3 c b β es q =
     let turned = c .before .before in
-    let placed = c .before .before .before .before .before .before .before .before .before .before .before .before .before .before in
-    let e = placed .before .before .before .before .before .before in
+    let placed = c .before .before .before .before .before .before .before .before .before .before .before .before in
+    let e = placed .before .before .before .before .before in
     let read = found e .entry-at .ensures in
     let same = sym (e .before .alike .ensures) ∙ not-false _ (e .if2 .left) in
     let ready = turnable q _ read same in
@@ -107,7 +107,6 @@ visit-spec =
     returns-2
     place-all-requires
     turn-requires
-    (λ c. search needs)
     (λ c. search needs)
     (λ c. search needs)
     (λ c. search needs)

@@ -1,4 +1,4 @@
--- `order::clear` meets its contract: the first `i` marks are 0, the others as they were, and the measure is the marks that are
+-- `clearing::clear` meets its contract: the first `i` words are 0, the others as they were, and the measure is the words that are
 -- left. Assumes nothing.
 use mathlib.Core.Path.{_≡_, refl, ap, _∙_}
 use mathlib.Core.List.{List, _++_}
@@ -7,23 +7,23 @@ use native.Mathlib.Omega.{arith}
 use lib.ListN.{length, drop, set, replicate, length-set}
 use borrow.Author.Fill.{fill-none, fill-more}
 use borrow.Author.Needs.{needs}
-use Rattle.order.proofs.clear.Statement.{statement}
-use Rattle.order.proofs.clear.Tie as tie
+use Rattle.clearing.proofs.clear.Statement.{statement}
+use Rattle.clearing.proofs.clear.Tie as tie
 
 abbrev Inv-loop : tie.InvT-loop
-Inv-loop marks₀ n i₀ marks i = (marks ≡ replicate i 0 ++ drop i marks₀) × (i ≤ n) × (length marks ≡ length marks₀)
+Inv-loop words₀ n i₀ words i = (words ≡ replicate i 0 ++ drop i words₀) × (i ≤ n) × (length words ≡ length words₀)
 
 abbrev μ-loop : tie.MeasureT-loop
-μ-loop marks₀ n i₀ marks i = n - i
+μ-loop words₀ n i₀ words i = n - i
 
 loop-holds : tie.Need-loop-holds Inv-loop μ-loop
-loop-holds c = (fill-none (c .args .marks .now) 0, omega arith, refl)
+loop-holds c = (fill-none (c .args .words .now) 0, omega arith, refl)
 
-mul-marks : tie.Need-mul-marks Inv-loop μ-loop
-mul-marks c = search needs
+mul-words : tie.Need-mul-words Inv-loop μ-loop
+mul-words c = search needs
 
-slice-write-marks : tie.Need-slice-write-marks Inv-loop μ-loop
-slice-write-marks c = search needs
+slice-write-words : tie.Need-slice-write-words Inv-loop μ-loop
+slice-write-words c = search needs
 
 add-i : tie.Need-add-i Inv-loop μ-loop
 add-i c = search needs
@@ -34,11 +34,11 @@ loop-less c = search needs
 loop-again : tie.Need-loop-again Inv-loop μ-loop
 loop-again c =
     let head = c .before in
-    let marks = head .before .args .marks .now in
+    let words = head .before .args .words .now in
     let i = head .loop .i in (
-      ap (λ (l : List ℕ). set l i 0) (head .loop .inv .0) ∙ fill-more i 0 marks (omega arith),
+      ap (λ (l : List ℕ). set l i 0) (head .loop .inv .0) ∙ fill-more i 0 words (omega arith),
       omega arith,
-      length-set (head .loop .marks) i 0 ∙ head .loop .inv .2,
+      length-set (head .loop .words) i 0 ∙ head .loop .inv .2,
     )
 
 same-length : tie.Need-same-length Inv-loop μ-loop
@@ -57,8 +57,8 @@ clear-spec =
     Inv-loop
     μ-loop
     loop-holds
-    mul-marks
-    slice-write-marks
+    mul-words
+    slice-write-words
     add-i
     loop-less
     loop-again

@@ -1,16 +1,17 @@
 //! The times of the calls at 1,024 terms, through the C interface and in Rust on the same bytes: opening and copying a book, and
-//! reading an entry, adding, fixing and reporting at 1,024 and at 2,048 entries. By hand: `tests/run bench`. A figure is the median of several runs
-//! and a run's the best of many rounds, in microseconds a call. The rows that are printed are those of docs/PERFORMANCE.md.
+//! the other five calls at 1,024 and at 2,048 entries. By hand: `tests/run bench`. A figure is the median of several runs and a run's
+//! the best of many rounds, in microseconds a call. The rows that are printed are those of docs/PERFORMANCE.md.
 
 mod bases;
 mod damage;
 mod fit;
 mod lean;
+mod library;
 mod reference;
 mod timing;
 
 use bases::Base;
-use reference::{perform, Answer, Call, Random, Term, OFFICE};
+use reference::{perform, Answer, Call, Perform, Random, Term, OFFICE};
 use std::hint::black_box;
 
 const RUNS: usize = 5;
@@ -57,50 +58,10 @@ fn row(what: &str, start: &[u8], length: usize, works: [Work; 3]) {
     println!("| {what} | {:.1} | {:.1} | {lean:.2} ({least:.2} to {greatest:.2}) | {:.1} | {plain:.2} |", column(0), column(1), column(2));
 }
 
-fn plainly(call: Call, area: &mut [u8], out: &mut [u8]) -> Answer {
-    perform(OFFICE, call, area, out)
-}
-
-fn leanly(call: Call, area: &mut [u8], out: &mut [u8]) -> Answer {
-    match call {
-        Call::Add { l, r } => {
-            let (refusal, entry) = lean::add(area, l, r);
-            Answer::new(refusal, &[entry])
-        }
-        Call::Bind { v, t } => {
-            let (refusal, turned, appended) = lean::bind(area, v, t);
-            Answer::new(refusal, &[turned, appended])
-        }
-        Call::Report => {
-            let (refusal, written) = lean::report(area, out);
-            Answer::new(refusal, &[written])
-        }
-        Call::Entry { i } => {
-            let (refusal, numbers) = lean::entry(area, i);
-            Answer { refusal, numbers }
-        }
-        Call::Open { capacity, book } => Answer::new(lean::open::<false>(capacity, book, area), &[]),
-        Call::Write => unreachable!("not measured"),
-    }
-}
-
-fn proved(call: Call, area: &mut [u8], out: &mut [u8]) -> Answer {
-    let mut numbers = [0; 14];
-    let [first, second, ..] = &mut numbers;
-    let refusal = match call {
-        Call::Add { l, r } => fit::add(area, l, r, first),
-        Call::Bind { v, t } => fit::bind(area, v, t, first, second),
-        Call::Entry { i } => fit::entry(area, i, &mut numbers),
-        Call::Report => fit::report(area, out, first),
-        Call::Open { capacity, book } => fit::open(capacity, book, area),
-        Call::Write => unreachable!("not measured"),
-    };
-    Answer { refusal, numbers }
-}
-
 fn call_row(what: &str, start: &[u8], call: Call) {
-    let length = if matches!(call, Call::Report) { LONGEST_REPORT } else { 0 };
-    row(what, start, length, [&|area, out| proved(call, area, out), &|area, out| leanly(call, area, out), &|area, out| plainly(call, area, out)]);
+    let length = if matches!(call, Call::Report | Call::Write) { LONGEST_REPORT } else { 0 };
+    let [ours, lean, plain] = [library::perform, lean::perform, perform as Perform].map(|perform| move |area: &mut [u8], out: &mut [u8]| perform(OFFICE, call, area, out));
+    row(what, start, length, [&ours, &lean, &plain]);
 }
 
 fn copy_row(book: &[u8]) {
@@ -108,17 +69,20 @@ fn copy_row(book: &[u8]) {
         let mut written = 0;
         Answer::new(fit::copy_book(book, out, &mut written), &[written])
     };
-    let length = [book.len() as u32];
-    let lean = |_: &mut [u8], out: &mut [u8]| Answer::new(lean::copy(book, out), &length);
+    let lean = |_: &mut [u8], out: &mut [u8]| {
+        let (refusal, written) = lean::copy(book, out);
+        Answer::new(refusal, &[written])
+    };
     let plain = |_: &mut [u8], out: &mut [u8]| {
         let bytes = reference::encode(&reference::decode(OFFICE, book).unwrap());
         out.copy_from_slice(&bytes);
-        Answer::new(0, &length)
+        Answer::new(0, &[bytes.len() as u32])
     };
     row("decoding and encoding", &[], book.len(), [&ours, &lean, &plain]);
 }
 
-/// The calls on a table that is nearly full; reading an entry takes the time of the test of an area. Of the choices of a constant, the one that turns the most entries is measured.
+/// The calls on a table that is nearly full; reading an entry takes the time of the test of an area. Of the choices of a constant,
+/// the one that turns the most entries is measured.
 fn table_rows(base: &Base) {
     let words = |i: usize| u32::from_le_bytes([0, 1, 2, 3].map(|byte| base.area[4 * i + byte]));
     let (entries, lines) = (words(2), words(3));
@@ -130,6 +94,7 @@ fn table_rows(base: &Base) {
     call_row(&format!("adding a line: {at}"), &base.area, Call::Add { l: 1022, r: 1023 });
     call_row(&format!("fixing a choice ({} turned): {at}", turned(&choice)), &base.area, choice);
     call_row(&format!("reporting: {at}"), &base.area, Call::Report);
+    call_row(&format!("writing the book: {at}"), &base.area, Call::Write);
 }
 
 /// Rust on rows makes the same tests: it agrees with the second implementation on areas of which most are damaged.
@@ -141,10 +106,10 @@ fn compare_lean() {
         let damage = random.pick(&[damage::alter, damage::edit]);
         damage(&mut random, &mut area);
         let (a, b) = (random.below(12) as u32, random.below(12) as u32);
-        for call in [Call::Add { l: a, r: b }, Call::Bind { v: a, t: b }, Call::Entry { i: a }, Call::Report] {
+        for call in [Call::Add { l: a, r: b }, Call::Bind { v: a, t: b }, Call::Entry { i: a }, Call::Report, Call::Write] {
             let length = 2 + random.place(60);
-            let same = result(&|area, out| leanly(call, area, out), &area, length) == result(&|area, out| plainly(call, area, out), &area, length);
-            assert!(same, "{call:?}: Rust on rows differs");
+            let [lean, plain] = [lean::perform as Perform, perform].map(|perform| result(&|area, out| perform(OFFICE, call, area, out), &area, length));
+            assert!(lean == plain, "{call:?}: Rust on rows differs");
         }
     }
 }

@@ -8,12 +8,13 @@ mod census;
 mod damage;
 #[cfg_attr(stand_in, path = "stand_in.rs")]
 mod fit;
+mod library;
 mod reference;
 mod samples;
 
 use bases::Base;
 use census::{Census, Kind, Sight, EVERY_LENGTH};
-use reference::{decode, encode, perform, times, Answer, Call, Limits, Random, Term, OFFICE};
+use reference::{decode, encode, perform, times, Answer, Call, Random, Term, OFFICE};
 use samples::Tally;
 use std::thread;
 
@@ -31,39 +32,8 @@ const ORDER_EVERY: u64 = 8;
 const LENGTHS_EVERY: u64 = 4096;
 /// No report is longer.
 const LONGEST_REPORT: usize = 47_620;
-/// What the library's numbers are before a call.
-const UNSET: u32 = 0xA5A5_A5A5;
 /// Bytes before and after what is lent to the library.
 const GUARD: [u8; 16] = [0xC3; 16];
-
-/// A call through the C interface.
-fn library(_: Limits, call: Call, area: &mut [u8], out: &mut [u8]) -> Answer {
-    let (mut first, mut second) = (UNSET, UNSET);
-    match call {
-        Call::Open { capacity, book } => Answer::new(fit::open(capacity, book, area), &[]),
-        Call::Add { l, r } => {
-            let refusal = fit::add(area, l, r, &mut first);
-            Answer::new(refusal, &[first])
-        }
-        Call::Bind { v, t } => {
-            let refusal = fit::bind(area, v, t, &mut first, &mut second);
-            Answer::new(refusal, &[first, second])
-        }
-        Call::Entry { i } => {
-            let mut numbers = [UNSET; 14];
-            let refusal = fit::entry(area, i, &mut numbers);
-            Answer { refusal, numbers }
-        }
-        Call::Report => {
-            let refusal = fit::report(area, out, &mut first);
-            Answer::new(refusal, &[first])
-        }
-        Call::Write => {
-            let refusal = fit::write(area, out, &mut first);
-            Answer::new(refusal, &[first])
-        }
-    }
-}
 
 /// Bytes that are lent to the library, between guards.
 struct Lent(Vec<u8>);
@@ -128,7 +98,7 @@ impl Twins {
     fn call(&mut self, call: Call, length: usize, filling: u8) -> Result<(Answer, Vec<u8>), String> {
         let mut their_out = vec![filling; length];
         let mut our_out = Lent::new(&their_out);
-        let ours = library(OFFICE, call, self.ours.bytes(), our_out.bytes());
+        let ours = library::perform(OFFICE, call, self.ours.bytes(), our_out.bytes());
         let theirs = perform(OFFICE, call, &mut self.theirs, &mut their_out);
         if ours != theirs {
             return Err(format!("{call:?} answers {ours:?}, expected {theirs:?}"));
@@ -485,8 +455,8 @@ fn run_lists() -> (Census, u64) {
 
 fn main() {
     let mut tally = Tally::default();
-    samples::run(OFFICE, library, &mut tally);
-    samples::layout_example(OFFICE, library, &mut tally);
+    samples::run(OFFICE, library::perform, &mut tally);
+    samples::layout_example(OFFICE, library::perform, &mut tally);
     let (census, different) = run_lists();
     println!("{} lists from seed {FIRST_SEED:#x}, {} calls, {different} lists differ", LISTS * times(), census.calls());
     census.print();

@@ -1,15 +1,17 @@
 //! How the time of each call grows, through the C interface: books of 16, 64, 256 and 1,024 terms with tables of two entries a term,
-//! as a table and as a plot (docs/growth.svg); the inputs that are hardest on one part of the work; and beside each time those for
-//! copying the area's bytes once and for reading each of its words once. By hand: `tests/run growth`. A figure is the best of many
-//! rounds, in microseconds a call.
+//! as a table and as a plot (docs/growth.svg); the inputs that are hardest on one part of the work; with each time its ratio to that of
+//! Rust on rows, and beside them the times for copying the area's bytes once and for reading each of its words once. By hand:
+//! `tests/run growth`. A figure is the best of many rounds, in microseconds a call.
 
 mod bases;
 mod fit;
+mod lean;
+mod library;
 mod reference;
 mod timing;
 
 use bases::Base;
-use reference::{perform, Call, Random, OFFICE};
+use reference::{perform, Answer, Call, Perform, Random, OFFICE};
 use std::fmt::Write;
 use std::hint::black_box;
 
@@ -20,37 +22,47 @@ const ROUNDS: usize = 40;
 const REPEATS: usize = 25;
 const LONGEST_REPORT: usize = 47_620;
 
-/// The best time of a call, in microseconds; it must be accepted.
-fn best(start: &[u8], mut work: impl FnMut(&mut [u8]) -> u32) -> f64 {
-    timing::best(start, ROUNDS, REPEATS, |area| assert_eq!(work(area), 0, "a measured call is refused"))
+/// The best time of some work on an area, in microseconds.
+fn best(start: &[u8], work: impl FnMut(&mut [u8])) -> f64 {
+    timing::best(start, ROUNDS, REPEATS, work)
 }
 
 /// Of some choices the one that turns most entries, and a line that is accepted, if there are such.
-fn steps(base: &Base) -> (Option<(u32, u32)>, Option<(u32, u32)>) {
+fn steps(base: &Base) -> (Option<Call<'static>>, Option<Call<'static>>) {
     let terms = u32::from_le_bytes(base.area[4..8].try_into().unwrap());
     let answer = |call| perform(OFFICE, call, &mut base.area.clone(), &mut []);
-    let choices = (0..terms).flat_map(|v| [0, terms / 16, terms / 8 - 1, terms / 2, terms - 1].map(|t| (v, t))).filter(|&(v, t)| v != t);
-    let accepted = choices.filter(|&(v, t)| answer(Call::Bind { v, t }).refusal == 0);
-    let choice = accepted.max_by_key(|&(v, t)| answer(Call::Bind { v, t }).numbers[0]);
-    let lines = (0..terms.min(40)).flat_map(|i| [(terms - 2 - i, terms - 1 - i), (0, i), (i, i)]);
-    let line = lines.filter(|&(l, r)| l < terms && r < terms).find(|&(l, r)| answer(Call::Add { l, r }).refusal == 0);
-    (choice, line)
+    let pairs = (0..terms).flat_map(|v| [0, terms / 16, terms / 8 - 1, terms / 2, terms - 1].map(|t| (v, t))).filter(|&(v, t)| v != t);
+    let choices = pairs.map(|(v, t)| Call::Bind { v, t }).filter(|&call| answer(call).refusal == 0);
+    let choice = choices.max_by_key(|&call| answer(call).numbers[0]);
+    let pairs = (0..terms.min(40)).flat_map(|i| [(terms - 2 - i, terms - 1 - i), (0, i), (i, i)]);
+    let lines = pairs.filter(|&(l, r)| l < terms && r < terms).map(|(l, r)| Call::Add { l, r });
+    (choice, lines.into_iter().find(|&call| answer(call).refusal == 0))
+}
+
+/// The best times of a call by the library and by Rust on rows, which accept it and leave the same.
+fn times(base: &Base, call: Call) -> [f64; 2] {
+    let both = [library::perform as Perform, lean::perform];
+    let results = both.map(|perform| {
+        let (mut area, mut out) = (base.area.clone(), vec![0; LONGEST_REPORT]);
+        (perform(OFFICE, call, &mut area, &mut out), area, out)
+    });
+    assert_eq!(results[0].0.refusal, 0, "a measured call is refused");
+    assert!(results[0] == results[1], "{call:?}: Rust on rows differs");
+    let mut out = vec![0; LONGEST_REPORT];
+    both.map(|perform| {
+        best(&base.area, |area| {
+            let answer: Answer = perform(OFFICE, call, area, black_box(&mut out));
+            black_box(answer);
+        })
+    })
 }
 
 /// The times of the six calls on a base, as far as they are accepted there.
-fn times(base: &Base) -> [Option<f64>; 6] {
+fn all_times(base: &Base) -> [Option<[f64; 2]>; 6] {
     let (choice, line) = steps(base);
-    let mut out = vec![0; LONGEST_REPORT];
-    let (mut first, mut second, mut fields) = (0, 0, [0; 14]);
-    let has_entry = base.area[8..12] != [0; 4];
-    [
-        Some(best(&base.area, |area| fit::open(base.capacity, &base.book, area))),
-        line.map(|(l, r)| best(&base.area, |area| fit::add(area, l, r, &mut first))),
-        choice.map(|(v, t)| best(&base.area, |area| fit::bind(area, v, t, &mut first, &mut second))),
-        has_entry.then(|| best(&base.area, |area| fit::entry(area, 0, &mut fields))),
-        Some(best(&base.area, |area| fit::report(area, &mut out, &mut first))),
-        Some(best(&base.area, |area| fit::write(area, &mut out, &mut first))),
-    ]
+    let open = Call::Open { capacity: base.capacity, book: &base.book };
+    let entry = (base.area[8..12] != [0; 4]).then_some(Call::Entry { i: 0 });
+    [Some(open), line, choice, entry, Some(Call::Report), Some(Call::Write)].map(|call| call.map(|call| times(base, call)))
 }
 
 /// The times to copy the area's bytes once, and to read each of its words once.
@@ -59,28 +71,29 @@ fn passes(base: &Base) -> [f64; 2] {
     let copied = best(&base.area, |area| {
         copy.copy_from_slice(area);
         black_box(&copy);
-        0
     });
     let read = best(&base.area, |area| {
         let words = area.chunks_exact(4).map(|word| u32::from_le_bytes(word.try_into().unwrap()));
-        black_box(words.fold(0, u32::wrapping_add)) & 0
+        black_box(words.fold(0, u32::wrapping_add));
     });
     [copied, read]
 }
 
-fn shown(time: Option<f64>) -> String {
-    time.map_or("refused".to_string(), |time| format!("{time:.1}"))
+/// The library's time, and its ratio to that of Rust on rows.
+fn shown(times: Option<[f64; 2]>) -> String {
+    times.map_or("refused".to_string(), |[ours, lean]| format!("{ours:.1} ({:.2})", ours / lean))
 }
 
+/// Prints the row of a base, and gives the library's times.
 fn row(what: &str, base: &Base) -> [Option<f64>; 6] {
-    let (times, [copied, read]) = (times(base), passes(base));
+    let (times, [copied, read]) = (all_times(base), passes(base));
     let word = |i: usize| u32::from_le_bytes(base.area[4 * i..4 * i + 4].try_into().unwrap());
     print!("| {what} | {} | {} |", word(1), word(2));
     for time in times {
         print!(" {} |", shown(time));
     }
     println!(" {copied:.1} | {read:.1} |");
-    times
+    times.map(|times| times.map(|[ours, _]| ours))
 }
 
 /// Where a size and a time stand in the plot, both by their logarithms.
@@ -115,7 +128,7 @@ fn plot(rows: &[[Option<f64>; 6]]) -> String {
 fn main() {
     println!("| | terms | entries | {} | copying the area | reading its words |", CALLS.join(" | "));
     println!("|---|---|---|{}", "---|".repeat(CALLS.len() + 2));
-    let rows: Vec<[Option<f64>; 6]> = SIZES.iter().map(|&terms| row("growth", &bases::measured(&mut Random(1024), terms, 2 * terms))).collect();
+    let rows: Vec<[Option<f64>; 6]> = SIZES.iter().map(|&terms| row("two entries a term", &bases::measured(&mut Random(1024), terms, 2 * terms))).collect();
     print!("| times a doubling, at most | | |");
     for call in 0..CALLS.len() {
         let steepest = rows.windows(2).filter_map(|pair| Some((pair[1][call]? / pair[0][call]?).sqrt())).fold(0.0, f64::max);

@@ -1,14 +1,16 @@
-//! Opening and copying a book in plain Rust as the proved code does it, on rows of words and with no allocation: what the
-//! proved code is measured against. lean/calls.rs has the calls on an opened area.
+//! The calls in plain Rust as the proved code does them, on rows of words and with no allocation: what the proved code is measured
+//! against. Here are opening and copying a book; lean/calls.rs has the calls on an opened area.
+
+// Each program uses a part.
+#![allow(dead_code)]
 
 mod area;
 mod calls;
 
-pub use calls::{add, bind, entry, report};
+use crate::reference::{Answer, Call, Limits, OFFICE};
 
-use crate::reference::OFFICE;
-
-const ROWS: usize = 10 * 1024;
+const TERM_ROW: usize = 10;
+const ROWS: usize = TERM_ROW * 1024;
 
 fn number(bytes: &[u8], at: &mut usize) -> Result<u32, u32> {
     let mut value = 0;
@@ -25,7 +27,7 @@ fn number(bytes: &[u8], at: &mut usize) -> Result<u32, u32> {
 
 /// Whether no earlier row has this first number with another arity.
 fn fits_earlier(rows: &[u32], first: u32, arity: u32) -> bool {
-    rows.chunks_exact(10).all(|row| row[0] != first || row[1] == arity)
+    rows.chunks_exact(TERM_ROW).all(|row| row[0] != first || row[1] == arity)
 }
 
 /// Decodes into rows. The rule that a symbol has one arity is tested by a table of symbols or by a look back.
@@ -49,7 +51,7 @@ fn decode<const LOOK_BACK: bool>(bytes: &[u8], rows: &mut [u32; ROWS]) -> Result
             return Err(4);
         }
         if LOOK_BACK {
-            if !fits_earlier(&rows[..10 * t], first, arity) {
+            if !fits_earlier(&rows[..TERM_ROW * t], first, arity) {
                 return Err(6);
             }
         } else {
@@ -59,7 +61,7 @@ fn decode<const LOOK_BACK: bool>(bytes: &[u8], rows: &mut [u32; ROWS]) -> Result
             }
             *seen = arity as u8 + 1;
         }
-        let row = &mut rows[10 * t..10 * t + 10];
+        let row = &mut rows[TERM_ROW * t..TERM_ROW * (t + 1)];
         row[0] = first;
         row[1] = arity;
         for place in &mut row[2..2 + arity as usize] {
@@ -125,21 +127,55 @@ fn numbers(row: &[u32]) -> &[u32] {
     }
 }
 
-pub fn copy(book: &[u8], out: &mut [u8]) -> u32 {
-    let mut rows = [0; ROWS];
-    let count = match decode::<false>(book, &mut rows) {
-        Ok(count) => count,
-        Err(refusal) => return refusal,
-    };
-    let used = || rows[..10 * count].chunks_exact(10).flat_map(numbers);
-    let length = size(count as u32) + used().map(|&n| size(n)).sum::<usize>();
+/// Writes the rows of a book's terms as bytes: the refusal, or 0, and the number of bytes written.
+fn encode(rows: &[u32], out: &mut [u8]) -> (u32, u32) {
+    let count = (rows.len() / TERM_ROW) as u32;
+    let used = || rows.chunks_exact(TERM_ROW).flat_map(numbers);
+    let length = size(count) + used().map(|&n| size(n)).sum::<usize>();
     if out.len() < length {
-        return 13;
+        return (13, 0);
     }
     let mut at = 0;
-    put(out, &mut at, count as u32);
+    put(out, &mut at, count);
     for &n in used() {
         put(out, &mut at, n);
     }
-    0
+    (0, length as u32)
+}
+
+/// The refusal, or 0, and the number of bytes written.
+pub fn copy(book: &[u8], out: &mut [u8]) -> (u32, u32) {
+    let mut rows = [0; ROWS];
+    match decode::<false>(book, &mut rows) {
+        Ok(count) => encode(&rows[..TERM_ROW * count], out),
+        Err(refusal) => (refusal, 0),
+    }
+}
+
+/// A call, in the form of the second implementation's.
+pub fn perform(_: Limits, call: Call, area: &mut [u8], out: &mut [u8]) -> Answer {
+    let (refusal, numbers) = match call {
+        Call::Open { capacity, book } => (open::<false>(capacity, book, area), [0, 0]),
+        Call::Entry { i } => {
+            let (refusal, numbers) = calls::entry(area, i);
+            return Answer { refusal, numbers };
+        }
+        Call::Add { l, r } => {
+            let (refusal, entry) = calls::add(area, l, r);
+            (refusal, [entry, 0])
+        }
+        Call::Bind { v, t } => {
+            let (refusal, turned, appended) = calls::bind(area, v, t);
+            (refusal, [turned, appended])
+        }
+        Call::Report => {
+            let (refusal, written) = calls::report(area, out);
+            (refusal, [written, 0])
+        }
+        Call::Write => {
+            let (refusal, written) = calls::write(area, out);
+            (refusal, [written, 0])
+        }
+    };
+    Answer::new(refusal, &numbers)
 }

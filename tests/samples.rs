@@ -1,9 +1,6 @@
 //! The worked samples of docs/SPEC.md and the example of docs/LAYOUT.md, for any implementation of the six calls.
 
-use crate::reference::{Answer, Call, Limits};
-
-/// An implementation: it makes a call on an area and an output.
-pub type Perform = fn(Limits, Call, &mut [u8], &mut [u8]) -> Answer;
+use crate::reference::{Answer, Call, Limits, Perform};
 
 const BOOK_A: &[u8] = &[6, 0, 4, 0, 2, 1, 0, 2, 1, 1, 3, 2, 2, 0, 3, 2, 3, 1];
 const BOOK_B: &[u8] = &[5, 0, 0, 4, 0, 2, 1, 1, 2, 1, 2];

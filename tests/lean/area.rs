@@ -1,11 +1,11 @@
 //! An area in plain Rust: its words on the stack, the test of all of them, and the values of its terms.
 
+use super::TERM_ROW;
 use crate::reference::OFFICE;
 
 pub const TERMS: usize = 1024;
 const LINES: usize = 256;
 pub const CAPACITY: usize = 2048;
-const TERM_ROW: usize = 10;
 pub const ENTRY_ROW: usize = 14;
 
 const ROWS: usize = 4;
@@ -39,6 +39,11 @@ impl Area {
 
     pub fn lines(&self) -> &[u32] {
         &self.words[LINE_WORDS..LINE_WORDS + self.words[3] as usize]
+    }
+
+    /// The rows of all terms.
+    pub fn rows(&self) -> &[u32] {
+        &self.words[ROWS..ROWS + TERM_ROW * self.terms()]
     }
 
     fn row(&self, t: u32) -> &[u32] {

@@ -1,8 +1,8 @@
-//! Adding, fixing, reading an entry and reporting in plain Rust, with all tests of an area and no allocation: what the proved code is measured
-//! against.
+//! Adding, fixing, reading an entry, reporting and writing the book in plain Rust, with all tests of an area and no allocation: what the
+//! proved code is measured against.
 
 use super::area::{Area, Index, Values, CAPACITY, ENTRY_ROW, TERMS};
-use super::{put, size};
+use super::{encode, put, size};
 
 /// The refusal, or 0 and the entry.
 pub fn add(bytes: &mut [u8], l: u32, r: u32) -> (u32, u32) {
@@ -237,4 +237,13 @@ pub fn report(bytes: &[u8], out: &mut [u8]) -> (u32, u32) {
     let mut at = 0;
     numbering.each(&area, &values, |n| put(out, &mut at, n));
     (0, length as u32)
+}
+
+/// The refusal, or 0, and the number of bytes written.
+pub fn write(bytes: &[u8], out: &mut [u8]) -> (u32, u32) {
+    let mut area = Area::new();
+    match area.load(bytes) {
+        Some(_) => encode(area.rows(), out),
+        None => (7, 0),
+    }
 }

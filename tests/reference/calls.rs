@@ -31,6 +31,9 @@ impl Answer {
     }
 }
 
+/// An implementation: it makes a call on an area and an output.
+pub type Perform = fn(Limits, Call, &mut [u8], &mut [u8]) -> Answer;
+
 /// Makes a call: its answer, and the area and the output as it leaves them.
 pub fn perform(limits: Limits, call: Call, area: &mut [u8], out: &mut [u8]) -> Answer {
     let numbers = match call {

@@ -1,0 +1,35 @@
+//! A call through the C interface, in the form of the second implementation's.
+
+use crate::fit;
+use crate::reference::{Answer, Call, Limits};
+
+/// What the library's numbers are before a call.
+const UNSET: u32 = 0xA5A5_A5A5;
+
+pub fn perform(_: Limits, call: Call, area: &mut [u8], out: &mut [u8]) -> Answer {
+    let (mut first, mut second) = (UNSET, UNSET);
+    match call {
+        Call::Open { capacity, book } => Answer::new(fit::open(capacity, book, area), &[]),
+        Call::Add { l, r } => {
+            let refusal = fit::add(area, l, r, &mut first);
+            Answer::new(refusal, &[first])
+        }
+        Call::Bind { v, t } => {
+            let refusal = fit::bind(area, v, t, &mut first, &mut second);
+            Answer::new(refusal, &[first, second])
+        }
+        Call::Entry { i } => {
+            let mut numbers = [UNSET; 14];
+            let refusal = fit::entry(area, i, &mut numbers);
+            Answer { refusal, numbers }
+        }
+        Call::Report => {
+            let refusal = fit::report(area, out, &mut first);
+            Answer::new(refusal, &[first])
+        }
+        Call::Write => {
+            let refusal = fit::write(area, out, &mut first);
+            Answer::new(refusal, &[first])
+        }
+    }
+}

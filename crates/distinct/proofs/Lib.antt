@@ -1,2 +1,2 @@
 pub mod Places
-mod Own
+pub mod Own

@@ -1,5 +1,5 @@
 -- The pairs of a table's sides, each number under a function, pushed in order: what each push answers. Assumes nothing.
-use mathlib.Core.Path.{_≡_, refl, sym, _∙_}
+use mathlib.Core.Path.{_≡_, refl, ap, sym, _∙_}
 use mathlib.Core.List.{List, _++_, map}
 use Prim.Native.Nat.{ℕ, suc, _+_, _<_}
 use native.Mathlib.Nat.{not-suc-le-zero}
@@ -138,28 +138,19 @@ module _ (f : ℕ → ℕ) (es : Table) where
         ∙ rw (← named (entry es i .left) (left-term i h), ← named (entry es i .right) (right-term i h))
         (place-at (leftsBy f es) (rightsBy f es) (length es) i _ _ h (side-pair i h))
 
--- no two entries hold one pair exactly where each pair's first place is its own
-module _ (es : Table) where
-  abbrev own : ℕ → ℕ
-  own = placeBy (λ t. t) es
+-- No two entries hold one pair where each pair, under some function, has its first place at its own entry, and only where each
+-- pair has it there as it is.
+pub alone-distinct : (f : ℕ → ℕ) (es : Table) → ((i : ℕ) → i < length es → placeBy f es i ≡ i) → T (distinct es)
+unfolding placeBy
+alone-distinct f es h =
+    facts-distinct es (λ i j l k p q.
+    let there = side-pair f es i (omega arith) in
+    let low = place-least (leftsBy f es) (rightsBy f es) j _ _ i l (record { left = there .left ∙ ap f p; right = there .right ∙ ap f q }) in
+    omega (arith, low, h j k))
 
-  distinct-own : (i : ℕ) → i < length es → T (distinct es) → own i ≡ i
-  unfolding placeBy
-  distinct-own i h d =
-      place-none (leftsBy (λ t. t) es) (rightsBy (λ t. t) es) i _ _ (λ j l g.
-      let there = side-pair (λ t. t) es j (omega arith) in
-      distinct-facts es d j i l h (sym (there .left) ∙ g .left) (sym (there .right) ∙ g .right))
-
-  own-distinct : ((i : ℕ) → i < length es → own i ≡ i) → T (distinct es)
-  unfolding placeBy
-  own-distinct h =
-      facts-distinct es (λ i j l k p q.
-      let there = side-pair (λ t. t) es i (omega arith) in
-      let low = place-least (leftsBy (λ t. t) es) (rightsBy (λ t. t) es) j _ _ i l (record { left = there .left ∙ p; right = there .right ∙ q }) in
-      omega (arith, low, h j k))
-
-  pub distinct-places : distinct es ≡ all (λ i. eqb (placeBy (λ t. t) es i) i) (from 0 (length es))
-  distinct-places =
-      same-test (distinct es) (all (λ i. eqb (own i) i) (from 0 (length es)))
-      (λ d. below-all (λ i. eqb (own i) i) (length es) (λ i h. eq-T _ _ (distinct-own i h d)))
-      (λ a. own-distinct (λ i h. eqb→eq _ _ (all-below (λ i. eqb (own i) i) (length es) a i h)))
+pub distinct-alone : (es : Table) → T (distinct es) → (i : ℕ) → i < length es → placeBy (λ t. t) es i ≡ i
+unfolding placeBy
+distinct-alone es d i h =
+    place-none (leftsBy (λ t. t) es) (rightsBy (λ t. t) es) i _ _ (λ j l g.
+    let there = side-pair (λ t. t) es j (omega arith) in
+    distinct-facts es d j i l h (sym (there .left) ∙ g .left) (sym (there .right) ∙ g .right))

@@ -2,7 +2,9 @@
 // are computed already (kinds specs/Known.antt, specs/Tests.antt). They only read the table; `lefts`, `rights` and `cells`
 // are scratch.
 
-ghost use mathlib.Core.Bool.{_&&_};
+ghost use mathlib.Core.Path.{_≡_};
+ghost use mathlib.Core.Bool.{true, _&&_};
+ghost use lib.Dec.{T};
 ghost use Rattle.model.specs.Lists.{all};
 ghost use Rattle.model.specs.Area.{distinct};
 ghost use Rattle.layout.specs.Rows.{tableOf};
@@ -12,6 +14,13 @@ ghost use Rattle.pairs.specs.Index.{Room};
 use layout::ENTRY_WORDS;
 ghost use Rattle.entries.specs.Tests.{sameAsRight};
 
+// What the test of same-as finds: whether all are right, and whether no two entries have the same two names, so that none hold the same
+// two terms.
+struct SameAs {
+    right: bool,
+    apart: bool,
+}
+
 // Whether the same-as of each of the `m` entries is the first entry with its two names.
 fn same_as_ok(
     names: &[u32],
@@ -20,13 +29,15 @@ fn same_as_ok(
     lefts: &mut [u32],
     rights: &mut [u32],
     cells: &mut [u32],
-) -> bool
+) -> SameAs
     requires known { ⌜ Given (λ b β. Named b β (now names) (now entries) m) ⌝ }
     requires room { ⌜ Room (now lefts) (now rights) (now cells) m ⌝ }
-    ensures { λ x. ⌜ Answers (λ b β. Named b β (now (names .entry)) (now (entries .entry)) m)
-        (λ b β. all (sameAsRight b β (tableOf (now (entries .entry)) m)) (tableOf (now (entries .entry)) m)) x ⌝ }
+    ensures right { λ x. ⌜ Answers (λ b β. Named b β (now (names .entry)) (now (entries .entry)) m)
+        (λ b β. all (sameAsRight b β (tableOf (now (entries .entry)) m)) (tableOf (now (entries .entry)) m)) (x .right) ⌝ }
+    ensures apart { λ x. ⌜ (x .right ≡ true → x .apart ≡ true → T (distinct (tableOf (now (entries .entry)) m))) ⌝ }
 {
     clearing::clear(cells, pairs::BUCKETS);
+    let mut apart = true;
     let mut i = 0;
     while i < m {
         let row = ENTRY_WORDS * i;
@@ -34,11 +45,17 @@ fn same_as_ok(
         let right = entries[row + 1] as usize;
         let place = pairs::push(lefts, rights, cells, i, names[left], names[right]);
         if place != entries[row + ENTRY_WORDS - 1] as usize {
-            return false;
+            return SameAs {
+                right: false,
+                apart,
+            };
+        }
+        if place != i {
+            apart = false;
         }
         i += 1;
     }
-    true
+    SameAs { right: true, apart }
 }
 
 // Whether the table of `m` entries passes the tests that look at values and at pairs of entries.
@@ -61,8 +78,12 @@ pub fn table_ok(
     if !kinds::kinds_ok(rows, roots, names, entries, m) {
         return false;
     }
-    if !same_as_ok(names, entries, m, lefts, rights, cells) {
+    let found = same_as_ok(names, entries, m, lefts, rights, cells);
+    if !found.right {
         return false;
+    }
+    if found.apart {
+        return true;
     }
     distinct::distinct_ok(m, entries, lefts, rights, cells)
 }

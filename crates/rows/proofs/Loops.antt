@@ -11,7 +11,7 @@ use Rattle.theory.proofs.Lists.Laws.{T-true, true-T, not-T-false, all-at, all-i
 use Rattle.theory.proofs.Soundness.Terms.{all-below, below-all}
 
 -- a test that holds does not fail
-not-both : (b : Bool) → b ≡ false → T b → ⊥
+pub not-both : (b : Bool) → b ≡ false → T b → ⊥
 not-both b e h = rw e at h
 
 -- the loop's invariant: the test holds of every number below i

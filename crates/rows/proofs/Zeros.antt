@@ -1,16 +1,18 @@
 -- Words that are 0: as a limit, and as the places behind numbers that are padded with zeros. Assumes nothing.
 use mathlib.Core.Path.{_≡_, refl, ap₂}
 use mathlib.Core.List.{List, [], _∷_}
-use mathlib.Core.Bool.{Bool, true, false, _&&_, and-false}
-use Prim.Native.Nat.{ℕ, zero, suc, _+_, _≤_}
+use mathlib.Core.Bool.{Bool, true, false, _&&_, and-true, and-false}
+use Prim.Native.Nat.{ℕ, zero, suc, _+_, _<_, _≤_}
 use native.Mathlib.Nat.{suc-sub-suc, sub-zero}
+use native.Mathlib.Numerals.{add-one}
 use native.Mathlib.Omega.{arith}
 use borrow.Author.Tests.{le-ltb, eq-eqb}
-use lib.ListN.{length, take, drop, replicate}
+use lib.ListN.{length, getD, take, drop, replicate, drop-of-length-le}
 use lib.Dec.{eqb, ltb, leb, leb·zero, eqb·zero-suc}
-use lib.Seq.{take-take}
+use lib.Seq.{take-take, drop-cons}
 use Rattle.model.specs.Lists.{all, isEmpty, eqNumbers, padded}
 use Rattle.theory.proofs.Lists.Laws.{eqb-sym, all-alike}
+use Rattle.rows.specs.RowTests.{zeroFrom}
 use Rattle.rows.proofs.Parts.{part, run, length-run, run-behind}
 
 -- a number below 1 is 0
@@ -20,6 +22,23 @@ below-one (suc w) = rw (le-ltb (suc w) 1 (omega arith), eqb·zero-suc)
 
 pub zeros-below-one : (words : List ℕ) → all (λ w. ltb w 1) words ≡ all (eqb 0) words
 zeros-below-one words = all-alike _ _ below-one words
+
+-- A loop over the words from a place on, of which z says whether those before place k are 0 and t whether all are: the next is 0,
+-- it is not, or there is none left.
+module _ (words : List ℕ) (k : ℕ) (z t : Bool) where
+  next : k < length words → zeroFrom words k ≡ eqb 0 (getD words k 0) && zeroFrom words (k + 1)
+  unfolding zeroFrom all
+  next l = rw (add-one, drop-cons words k 0 l)
+
+  pub one-is : k < length words → eqb 0 (getD words k 0) ≡ true → z && zeroFrom words k ≡ t → z && zeroFrom words (k + 1) ≡ t
+  one-is l e h = rw (next l, e) at h
+
+  pub one-is-not : k < length words → eqb 0 (getD words k 0) ≡ false → z && zeroFrom words k ≡ t → false && zeroFrom words (k + 1) ≡ t
+  one-is-not l e h = rw (next l, e, and-false) at h
+
+  pub none-left : length words ≤ k → z && zeroFrom words k ≡ t → z ≡ t
+  unfolding zeroFrom all
+  none-left l h = rw (drop-of-length-le words l, and-true) at h
 
 -- numbers that are zeros
 zeros : (xs : List ℕ) → eqNumbers xs (replicate (length xs) 0) ≡ all (eqb 0) xs

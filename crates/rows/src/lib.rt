@@ -21,10 +21,19 @@ pub fn all_below(words: &[u32], limit: usize) -> bool
     true
 }
 
-// Whether every word from place `from` on is 0.
+// Whether every word from place `from` on is 0. It reads them all, also behind one that is not: the loop has one way out, so that the
+// compiler can take several words at a time.
 pub fn zero_from(words: &[u32], from: usize) -> bool
     requires { ⌜ from ≤ length (now words) ⌝ }
     ensures { λ r. ⌜ r ≡ zeroFrom (now (words .entry)) from ⌝ }
 {
-    all_below(&words[from..], 1)
+    let mut zero = true;
+    let mut k = from;
+    while k < words.len() {
+        if words[k] != 0 {
+            zero = false;
+        }
+        k += 1;
+    }
+    zero
 }

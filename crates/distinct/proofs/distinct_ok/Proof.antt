@@ -8,6 +8,7 @@ use borrow.Author.Tests.{eq-eqb, ne-eqb}
 use denote.Ref.{now}
 use Rattle.layout.specs.Rows.{tableOf}
 use Rattle.layout.proofs.Rows.{length-tableOf}
+use Rattle.theory.proofs.Lists.Laws.{T-true}
 use Rattle.rows.proofs.Loops.{Passed}
 use Rattle.distinct.proofs.Places.{Filling, placeBy, filling-none, filled-place, push-room, filling-more}
 use Rattle.kinds.proofs.Rows.{entry-left, entry-right}
@@ -17,7 +18,7 @@ use Rattle.distinct.proofs.distinct_ok.Tie as tie
 
 abbrev Inv-loop : tie.InvT-loop
 Inv-loop m entries lefts₀ rights₀ cells₀ i₀ lefts rights cells i =
-    Filling (λ t. t) (tableOf entries m) lefts₀ rights₀ cells₀ lefts rights cells i × Passed (ownPlace entries m) i
+    Filling (λ t. t) (tableOf entries m) lefts₀ rights₀ cells₀ lefts rights cells i × Passed (ownPlace (λ t. t) (tableOf entries m)) i
 
 abbrev μ-loop : tie.MeasureT-loop
 μ-loop m entries lefts₀ rights₀ cells₀ i₀ lefts rights cells i = m - i
@@ -90,7 +91,7 @@ same-length-6 : tie.Need-same-length-6 Inv-loop μ-loop
 same-length-6 c = c .before .loop .inv .0 .cells-size ∙ c .before .before .before .before .clear .kept .0
 
 returns-2 : tie.Need-returns-2 Inv-loop μ-loop
-returns-2 c = all-distinct _ _ _ (c .loop-test .left) (c .before .loop .inv .1)
+returns-2 c = sym (T-true _ (all-distinct _ _ _ (λ t. t) (c .loop-test .left) (c .before .loop .inv .1)))
 
 pub distinct-ok-spec : {M : Type 1} → statement M
 distinct-ok-spec =

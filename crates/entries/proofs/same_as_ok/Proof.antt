@@ -1,6 +1,9 @@
--- `entries::same_as_ok` meets its contract: the loop's invariant says that the names of the entries before `i` are pushed and that
--- their same-as is right, and the measure is the entries that are left. Assumes nothing.
+-- `entries::same_as_ok` meets its contract: the loop's invariant says that the names of the entries before `i` are pushed, that their
+-- same-as is right, and where `apart` stands that each is the first with its names. The measure is the entries that are left. Assumes
+-- nothing.
+use mathlib.Core.Logic.{⊎-elim}
 use mathlib.Core.Path.{_≡_, ap, sym, _∙_}
+use mathlib.Core.Bool.{true, false≢true}
 use Prim.Native.Nat.{_+_, _*_, _-_, _<_}
 use native.Mathlib.Omega.{arith}
 use borrow.Author.Count.{below-none, below-more}
@@ -17,18 +20,20 @@ use Rattle.rows.proofs.Loops.{Passed, each-passed, one-failed}
 use Rattle.kinds.specs.Known.{Named}
 use Rattle.entries.specs.Tests.{sameAsRight}
 use Rattle.distinct.proofs.Places.{Filling, placeBy, filling-none, filled-place, push-room, filling-more}
+use Rattle.distinct.proofs.Own.{ownPlace, all-distinct}
 use Rattle.kinds.proofs.Rows.{entry-left, entry-right, left-lt, right-lt}
 use Rattle.entries.proofs.Table.{same-as-place}
 use Rattle.entries.proofs.same_as_ok.Statement.{statement}
 use Rattle.entries.proofs.same_as_ok.Tie as tie
 
 abbrev Inv-loop : tie.InvT-loop
-Inv-loop names entries m lefts₀ rights₀ cells₀ i₀ lefts rights cells i =
+Inv-loop names entries m lefts₀ rights₀ cells₀ apart₀ i₀ lefts rights cells apart i =
     Filling (at names) (tableOf entries m) lefts₀ rights₀ cells₀ lefts rights cells i
     × ((b : Book) (β : Bindings) → Named b β names entries m → Passed (λ j. sameAsRight b β (tableOf entries m) (entry (tableOf entries m) j)) i)
+    × (apart ≡ true → Passed (ownPlace (at names) (tableOf entries m)) i)
 
 abbrev μ-loop : tie.MeasureT-loop
-μ-loop names entries m lefts₀ rights₀ cells₀ i₀ lefts rights cells i = m - i
+μ-loop names entries m lefts₀ rights₀ cells₀ apart₀ i₀ lefts rights cells apart i = m - i
 
 -- the start of a turn, from its call, and of the function, from its loop
 abbrev turn : tie.After-push Inv-loop μ-loop → tie.In-loop Inv-loop μ-loop
@@ -40,7 +45,7 @@ start c = c .before .before .before .before .before .before .before .before .bef
 loop-holds : tie.Need-loop-holds Inv-loop μ-loop
 loop-holds c =
     let cleared = c .before .before .clear in
-    (filling-none _ _ (length-tableOf _ _) (c .before .before .before .before .before .before .before .before .before .pre .1) (cleared .ensures) (cleared .kept .0), λ b β k. below-none _)
+    (filling-none _ _ (length-tableOf _ _) (c .before .before .before .before .before .before .before .before .before .pre .1) (cleared .ensures) (cleared .kept .0), (λ b β k. below-none _), λ e. below-none _)
 
 -- the sides are terms
 left-term : (c : tie.In-loop Inv-loop μ-loop) →
@@ -119,21 +124,25 @@ same-length-3 c =
     p .push .kept .1 .1 .0 ∙ turn p .before .loop .inv .0 .cells-size ∙ turn p .before .before .before .before .clear .kept .0
 
 returns : tie.Need-returns Inv-loop μ-loop
-returns c b β k =
+returns c =
     let p = c .before .before .before .before .before .before .before .before in
-    let l = turn p .loop-test .taken in
-    sym (one-failed _ _ (holeAt 0 0 0) _ (rw length-tableOf l) (same-as-place k l ∙ ne-eqb _ _ (λ e. c .if1 .taken (place p ∙ sym e))))
+    let l = turn p .loop-test .taken in (
+      λ b β k. sym (one-failed _ _ (holeAt 0 0 0) _ (rw length-tableOf l) (same-as-place k l ∙ ne-eqb _ _ (λ e. c .if1 .taken (place p ∙ sym e)))),
+      λ e h. absurd (false≢true e),
+    )
 
 loop-again : tie.Need-loop-again Inv-loop μ-loop
 loop-again c =
-    let p = c .before .before .before .before .before .before .before .before in
+    let p = c .before .before .before .before .before .before .before .before .before in
     let t = turn p in
     let l = t .loop-test .taken in
     let f = at (now (start (t .before) .args .names)) in
     let h = t .before .loop .inv in (
       filling-more _ _ (rw length-tableOf l) (h .0) (p .push .ensures) (p .push .kept .1 .1 .0)
           (ap f (sym (entry-left _ _ _ l))) (ap f (sym (entry-right _ _ _ l))),
-      λ b β k. below-more _ _ (h .1 b β k) (same-as-place k l ∙ eq-eqb _ _ (sym (c .if1 .left) ∙ place p)),
+      λ b β k. below-more _ _ (h .1 b β k) (same-as-place k l ∙ eq-eqb _ _ (sym (c .before .if1 .left) ∙ place p)),
+      λ e. ⊎-elim (λ u. absurd (false≢true (sym (u .1) ∙ e)))
+          (λ u. below-more _ _ (h .2 (sym (u .1) ∙ e)) (eq-eqb _ _ (sym (place p) ∙ u .0 .left))) (c .if2 .came),
     )
 
 same-length-4 : tie.Need-same-length-4 Inv-loop μ-loop
@@ -146,7 +155,10 @@ same-length-6 : tie.Need-same-length-6 Inv-loop μ-loop
 same-length-6 c = c .before .loop .inv .0 .cells-size ∙ c .before .before .before .before .clear .kept .0
 
 returns-2 : tie.Need-returns-2 Inv-loop μ-loop
-returns-2 c b β k = sym (each-passed _ _ (holeAt 0 0 0) _ (rw length-tableOf (c .loop-test .left)) (c .before .loop .inv .1 b β k))
+returns-2 c = (
+  λ b β k. sym (each-passed _ _ (holeAt 0 0 0) _ (rw length-tableOf (c .loop-test .left)) (c .before .loop .inv .1 b β k)),
+  λ e apart. all-distinct _ _ _ (at (now (start (c .before) .args .names))) (c .loop-test .left) (c .before .loop .inv .2 apart),
+)
 
 pub same-as-ok-spec : {M : Type 1} → statement M
 same-as-ok-spec =

@@ -73,21 +73,19 @@ IsFlag rows bindings n v t w = w ≡ flag (occurs v (val (bookOf rows n) (boundO
 module _ (v : ℕ) {rows bindings list : List ℕ} {n : ℕ} {words₀ words : List ℕ} {k : ℕ}
     (h : Filled rows bindings list n (IsFlag rows bindings n v) words₀ words k) where
   -- one step from settled flags
-  pub flag-next : k < n → (c : Bool) → c ≡ occursStep (flagged words) v (at list k) (nodeOf rows (at list k)) (bindingOf bindings (at list k))
-      → (w : ℕ) → w ≡ flag c → IsFlag rows bindings n v (at list k) w
+  pub occurs-next : k < n → (c : Bool) → c ≡ occursStep (flagged words) v (at list k) (nodeOf rows (at list k)) (bindingOf bindings (at list k))
+      → c ≡ occurs v (val (bookOf rows n) (boundOf bindings n) (at list k))
   unfolding flagged
-  flag-next l c e w f =
+  occurs-next l c e =
       let b : Book = bookOf rows n in
       let β : Bindings = boundOf bindings n in
       let t : ℕ = at list k in
-      f
-      ∙ ap flag
-      (e
+      e
       ∙ occursStep-parts (flagged words) (λ u. occurs v (val b β u)) v t (nodeOf rows t) (bindingOf bindings t)
       (λ j r. flag-stands _ _ (settled-parts (h .listed) (IsFlag rows bindings n v) words k (h .settled) l j r))
       ∙ sym
       (occurs-of b β (good-formed (h .listed .good)) (acyclic-facts b β (h .listed .no-cycle)) v t (rw length-bookOf (next-term h l))
-      (nodeOf rows t) (bindingOf bindings t) (getD-bookOf rows n t (next-term h l)) (getD-boundOf bindings n t (next-term h l))))
+      (nodeOf rows t) (bindingOf bindings t) (getD-bookOf rows n t (next-term h l)) (getD-boundOf bindings n t (next-term h l)))
 
 -- looking through the arguments: none before j passes
 module _ (p : ℕ → Bool) (xs : List ℕ) (j : ℕ) (h : any p xs ≡ any p (drop j xs)) where

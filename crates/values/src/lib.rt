@@ -87,7 +87,7 @@ fn occurs_step(rows: &[u32], bindings: &[u32], flags: &[u32], v: u32, t: u32) ->
     flags[(bound - 1) as usize] != 0
 }
 
-// Whether the variable `v` occurs in the value of term `t`. `flags` is scratch.
+// Whether the variable `v` occurs in the value of term `t`: flags along the list, up to that term's own. `flags` is scratch.
 pub fn occurs_in(
     rows: &[u32],
     bindings: &[u32],
@@ -105,6 +105,9 @@ pub fn occurs_in(
     while k < n as usize {
         let u = list[k];
         let stands = occurs_step(rows, bindings, flags, v, u);
+        if u == t {
+            return stands;
+        }
         flags[u as usize] = flag(stands);
         k += 1;
     }

@@ -9,16 +9,15 @@ use lib.ListN.{length, getD, take, length-map}
 use lib.Dec.{eqb}
 use Rattle.model.specs.Limits.{maxArity}
 use Rattle.model.specs.Lists.{first}
-use Rattle.model.specs.Term.{Node, arguments, Book, Bindings}
-use Rattle.model.specs.Table.{Kind, hole, common, Entry, Table, entry}
+use Rattle.model.specs.Table.{Entry, Table, entry}
 use Rattle.model.specs.Step.{State}
 use Rattle.model.specs.Report.{kindArguments, class, argumentClasses, number}
 use Rattle.theory.specs.Numbering.{NumberedBelow, Numbering}
 use Rattle.theory.proofs.Lists.Laws.{true-T, first-least}
-use Rattle.theory.proofs.Soundness.Facts.{SoundFacts, KindRight}
+use Rattle.theory.proofs.Soundness.Facts.{SoundFacts}
 use Rattle.theory.proofs.Soundness.Test.{sound-facts}
 use Rattle.theory.proofs.Table.Search.{getD-map-lt}
-use Rattle.theory.proofs.Area.Layout.{root-arity}
+use Rattle.theory.proofs.Area.Layout.{entry-arity}
 use Rattle.theory.proofs.Report.Meeting.{kind-arguments-below, class-has}
 use Rattle.theory.proofs.Report.Numbering.{numbering}
 use Rattle.layout.specs.Rows.{at, loadedEntry, tableOf}
@@ -35,13 +34,6 @@ Marks entries numbers xs = (j : ℕ) → j < length xs → Marked entries number
 map-alike : (f g : ℕ → ℕ) (xs : List ℕ) → ((j : ℕ) → j < length xs → f (at xs j) ≡ g (at xs j)) → map f xs ≡ map g xs
 map-alike f g [] h = refl
 map-alike f g (x ∷ xs) h = ap₂ _∷_ (h 0 (suc-le-suc zero-le)) (map-alike f g xs (λ j l. h (suc j) (suc-le-suc l)))
-
--- the arguments of a right kind are few
-kind-few : (b : Book) (β : Bindings) (es : Table) (k : Kind) (l r : Node) → KindRight b β es k l r → length (arguments l) ≤ maxArity
-    → length (kindArguments k) ≤ maxArity
-unfolding kindArguments
-kind-few b β es hole l r h p = zero-le
-kind-few b β es (common s args) l r h p = omega (arith, h .count-left)
 
 -- a class that is numbered is found
 numbered-first : (met : List ℕ) (x : ℕ) → NumberedBelow met (length met) x → first (eqb x) met < length met
@@ -81,9 +73,7 @@ module _ {s : State} {entries : List ℕ} (t : Held s entries) where
     row-fits =
         record {
           within = omega (arith, t .rows-fit);
-          few = subst (λ (e : Entry). length (kindArguments (e .kind)) ≤ maxArity) entry-row
-              (kind-few (s .book) (s .bound) (s .entries) (entry (s .entries) i .kind) _ _ (facts .table .kind-right i l)
-              (root-arity (t .limits) s facts (entry (s .entries) i .left) (facts .table .left-term i l)));
+          few = subst (λ (e : Entry). length (kindArguments (e .kind)) ≤ maxArity) entry-row (entry-arity (t .limits) s facts i l);
         }
 
   -- so the classes can be numbered

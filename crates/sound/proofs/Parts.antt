@@ -10,10 +10,10 @@ use Rattle.model.specs.Lists.{concatMap, padded}
 use Rattle.model.specs.Term.{Node, var, app, arguments}
 use Rattle.model.specs.Table.{Kind, hole, common, entry, holeAt}
 use Rattle.model.specs.Step.{State}
+use Rattle.model.specs.Report.{kindArguments}
 use Rattle.model.specs.Area.{termWords, entryRowWords, nodeWords, bindingWord, kindWords, entryWords, areaWords}
 use Rattle.theory.proofs.Soundness.Facts.{SoundFacts}
 use Rattle.theory.proofs.Lists.Rows.{padded-row}
-use Rattle.theory.proofs.Area.Rows.{kindArguments}
 use Rattle.theory.proofs.Area.Layout.{wide-nodes, wide-entries, entry-arity, length-nodes, length-bound, length-lines}
 use Rattle.layout.specs.Rows.{Loaded, Sized, loadedWords}
 use Rattle.sound.proofs.State.{Fits}

@@ -11,8 +11,9 @@ use Rattle.model.specs.Lists.{pairwise}
 use Rattle.model.specs.Term.{Node, symbol, arguments, alike, Book, Bindings}
 use Rattle.model.specs.Table.{common, Entry, Table, entry, entryOf, turn}
 use Rattle.model.specs.Area.{termWords, entryRowWords, entryWords, kindWords}
+use Rattle.model.specs.Report.{kindArguments}
 use Rattle.theory.proofs.Lists.Laws.{true-T, length-pairwise}
-use Rattle.theory.proofs.Area.Rows.{kindArguments, width-entry}
+use Rattle.theory.proofs.Area.Rows.{width-entry}
 use Rattle.theory.proofs.Table.Place.{grown, turn-length, turn-grown, placeAll-longer}
 use Rattle.layout.specs.Rows.{at, nodeOf}
 use Rattle.layout.proofs.Rows.{node-app}

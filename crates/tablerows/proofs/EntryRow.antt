@@ -12,8 +12,9 @@ use Rattle.model.specs.Limits.{maxArity}
 use Rattle.model.specs.Lists.{all, isEmpty, eqNumbers}
 use Rattle.model.specs.Table.{hole, common}
 use Rattle.model.specs.Area.{entryRowWords, kindWords, entryWords}
+use Rattle.model.specs.Report.{kindArguments}
 use Rattle.theory.proofs.Lists.Laws.{T-true, eqNumbers-refl}
-use Rattle.theory.proofs.Area.Rows.{kindArguments, width-kind}
+use Rattle.theory.proofs.Area.Rows.{width-kind}
 use Rattle.layout.specs.Rows.{at, kindOf, loadedEntry}
 use Rattle.rows.specs.RowTests.{entryRowOk}
 use Rattle.rows.proofs.Parts.{part, run, length-run, run-cons}

@@ -12,10 +12,11 @@ use Rattle.model.specs.Term.{Node, var, arguments, root, Book, Bindings}
 use Rattle.model.specs.Table.{Kind, hole, common, Entry, Table, entry, holeAt}
 use Rattle.model.specs.Step.{State}
 use Rattle.model.specs.Area.{headerWords, termWords, entryRowWords, bindingsAt, linesAt, entriesAt, nodeWords, bindingWord, entryWords, areaWords}
+use Rattle.model.specs.Report.{kindArguments}
 use Rattle.theory.proofs.Soundness.Facts.{SoundFacts, KindRight}
 use Rattle.theory.proofs.Values.Equations.{deref-lt}
 use Rattle.theory.proofs.Lists.Rows.{Wide, length-rows, length-padded, getD-padded, getD-behind, padded-row}
-use Rattle.theory.proofs.Area.Rows.{kindArguments, width-node, width-entry}
+use Rattle.theory.proofs.Area.Rows.{width-node, width-entry}
 
 -- a right kind has as many arguments as its left root
 kind-count : (b : Book) (β : Bindings) (es : Table) (k : Kind) (l r : Node) → KindRight b β es k l r

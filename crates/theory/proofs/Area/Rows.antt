@@ -12,13 +12,9 @@ use Rattle.model.specs.Limits.{maxArity}
 use Rattle.model.specs.Lists.{padded}
 use Rattle.model.specs.Term.{Node, var, app, arguments}
 use Rattle.model.specs.Table.{Kind, hole, common, Entry}
+use Rattle.model.specs.Report.{kindArguments}
 use Rattle.model.specs.Area.{termWords, entryRowWords, nodeWords, bindingWord, kindWords, entryWords, word, wordsAt, nodeAt, bindingAt, kindAt, entryAt}
 use Rattle.theory.proofs.Lists.Rows.{map-from, length-padded, getD-padded}
-
--- the arguments of a kind
-unfoldable pub kindArguments : Kind → List ℕ
-kindArguments hole = []
-kindArguments (common s args) = args
 
 -- the widths of the rows of a node and an entry, and of a kind's part of it
 pub width-node : (n : Node) → length (arguments n) ≤ maxArity → length (nodeWords n) ≡ termWords

@@ -1,13 +1,13 @@
 -- Whether each pair of a table, under a function, has its first place at its own entry. Assumes nothing.
 use mathlib.Core.Path.{_≡_, sym}
 use mathlib.Core.List.{List}
-use mathlib.Core.Bool.{Bool, true, false}
+use mathlib.Core.Bool.{Bool, false}
 use Prim.Native.Nat.{ℕ, _≤_, _<_}
 use native.Mathlib.Omega.{arith}
 use lib.Dec.{T, eqb, eqb→eq}
 use Rattle.model.specs.Table.{Table}
 use Rattle.model.specs.Area.{distinct}
-use Rattle.theory.proofs.Lists.Laws.{T-true, true-T, not-T-false}
+use Rattle.theory.proofs.Lists.Laws.{true-T, not-T-false}
 use Rattle.theory.proofs.Soundness.Table.{eq-T}
 use Rattle.layout.specs.Rows.{tableOf}
 use Rattle.layout.proofs.Rows.{length-tableOf}

@@ -7,14 +7,11 @@ use native.Mathlib.Numerals.{add-one}
 use native.Mathlib.Omega.{arith}
 use borrow.Author.Count.{below-more}
 use lib.ListN.{length, getD, drop, set, replicate, length-set}
-use lib.Dec.{T, eqb, eqb→eq}
-use Rattle.model.specs.Lists.{all, from}
+use lib.Dec.{T}
 use Rattle.model.specs.Term.{Book, Bindings, name}
 use Rattle.model.specs.Table.{Entry, Table, holeAt, entry, entryOf}
 use Rattle.model.specs.Area.{distinct}
-use Rattle.theory.proofs.Lists.Laws.{same-test}
-use Rattle.theory.proofs.Soundness.Table.{eq-T, distinct-facts, facts-distinct}
-use Rattle.theory.proofs.Soundness.Terms.{all-below, below-all}
+use Rattle.theory.proofs.Soundness.Table.{distinct-facts, facts-distinct}
 use Rattle.theory.proofs.Table.Search.{getD-map-lt}
 use Rattle.pairs.specs.Pairs.{placeOf}
 use Rattle.pairs.specs.Index.{buckets, Room, Indexed, Pushed}

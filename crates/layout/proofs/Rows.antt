@@ -2,7 +2,7 @@
 use mathlib.Core.Path.{_≡_, refl, sym, _∙_}
 use mathlib.Core.List.{List, [], _∷_, _++_, map, map-map, map-append}
 use mathlib.Core.Bool.{Bool, true, false, cond}
-use mathlib.Core.Option.{Option, none, some}
+use mathlib.Core.Option.{none, some}
 use Prim.Native.Nat.{ℕ, _+_, _*_, _-_, _≤_, _<_, zero-le}
 use native.Mathlib.Nat.{zero-add}
 use native.Mathlib.Omega.{arith}
@@ -11,8 +11,8 @@ use lib.ListN.{length, getD, take, drop, length-take, length-drop}
 use lib.Seq.{length-take-le, getD-take, getD-drop}
 use lib.Dec.{eqb}
 use Rattle.model.specs.Lists.{from}
-use Rattle.model.specs.Term.{Node, var, app, arguments}
-use Rattle.model.specs.Table.{Entry, entry, holeAt}
+use Rattle.model.specs.Term.{var, app, arguments}
+use Rattle.model.specs.Table.{entry, holeAt}
 use Rattle.model.specs.Area.{termWords, bindingWord}
 use Rattle.theory.proofs.Lists.Laws.{from-append}
 use Rattle.theory.proofs.Lists.From.{length-map-from, getD-map-from}

@@ -3,10 +3,10 @@
 use mathlib.Core.Path.{_≡_}
 use mathlib.Core.List.{List, [], _∷_, _++_}
 use mathlib.Core.Bool.{Bool, true, _&&_}
-use Prim.Native.Nat.{ℕ, zero, suc, _+_, _-_, _^_, _≤_, _<_}
+use Prim.Native.Nat.{ℕ, _-_, _^_, _≤_, _<_}
 use lib.Dec.{T, ltb}
 use lib.ListN.{length, drop}
-use Rattle.leb128.specs.Number.{Read, number, read, readGroups, write}
+use Rattle.leb128.specs.Number.{number, read, write}
 
 -- every element is a byte
 unfoldable pub areBytes : List ℕ → Bool

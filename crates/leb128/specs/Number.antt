@@ -2,7 +2,7 @@
 -- The number of groups and the largest value are parameters, `k` and `limit`; `maxGroups` and `maxNumber` are this product's.
 -- Assumes nothing: these are definitions.
 use mathlib.Core.List.{List, [], _∷_}
-use mathlib.Core.Bool.{Bool, true, false, cond, _&&_}
+use mathlib.Core.Bool.{true, false, cond, _&&_}
 use Prim.Native.Nat.{ℕ, zero, suc, _+_, _*_, _-_, _/_, _%_}
 use lib.ListN.{length}
 use lib.Dec.{eqb, ltb, leb}

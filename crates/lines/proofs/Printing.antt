@@ -16,15 +16,9 @@ use Rattle.lines.specs.Lines.{openingLine, lines}
 abbrev Front : List ℕ → List ℕ → ℕ → List ℕ → Type 0
 Front text end r bytes = (r ≡ length bytes) × (end ≡ bytes ++ drop r text)
 
--- so they are no more than the buffer has
-front-within : (text end : List ℕ) (r : ℕ) (bytes : List ℕ) → Front text end r bytes → r ≤ length end
-front-within text end r bytes f = omega (arith, f .0, ap length (f .1), length-append bytes (drop r text))
-
-pub line-within : (answer : Stepped) (out text end : List ℕ) (r : ℕ) → Front text end r (linesText (lines answer out)) → r ≤ length end
-line-within answer out text end r f = front-within text end r (linesText (lines answer out)) f
-
+-- so an opening's line is no more than the buffer has
 pub opening-within : (answer : Begun) (text end : List ℕ) (r : ℕ) → Front text end r (lineText (openingLine answer)) → r ≤ length end
-opening-within answer text end r f = front-within text end r (lineText (openingLine answer)) f
+opening-within answer text end r f = omega (arith, f .0, ap length (f .1), length-append (lineText (openingLine answer)) (drop r text))
 
 -- a step's line, by its answer
 module _ (text end : List ℕ) (r : ℕ) (out : List ℕ) where

@@ -1,13 +1,13 @@
 -- The calls on bytes: what every contract cites (document 01, "Turned down"). Assumes nothing: these are definitions.
 use mathlib.Core.List.{List, [], _∷_, _++_}
 use mathlib.Core.Bool.{Bool, true, false, _&&_}
-use Prim.Native.Nat.{ℕ, zero, suc, _+_}
+use Prim.Native.Nat.{ℕ, suc}
 use lib.ListN.{length, drop, replicate}
 use lib.Dec.{ltb, leb}
-use Rattle.model.specs.Limits.{Limits, maxArity}
+use Rattle.model.specs.Limits.{Limits}
 use Rattle.model.specs.Term.{Book}
 use Rattle.model.specs.Table.{entry}
-use Rattle.model.specs.Step.{State, Answer, refused, accepted, addLine, bind, opened}
+use Rattle.model.specs.Step.{Answer, refused, accepted, addLine, bind, opened}
 use Rattle.model.specs.Report.{reportBytes}
 use Rattle.model.specs.BookBytes.{Parsed, parsed, parseBook, bookBytes}
 use Rattle.model.specs.Area.{areaBytes, areaLength, entryRowWords, entryWords, sound, stateOf}

@@ -1,6 +1,6 @@
 -- The report as numbers and as bytes (document 01, "Bytes"). Assumes nothing: these are definitions.
 use mathlib.Core.List.{List, [], _∷_, _++_, map}
-use mathlib.Core.Bool.{Bool, true, false, cond}
+use mathlib.Core.Bool.{true, false, cond}
 use Prim.Native.Nat.{ℕ, zero, suc}
 use lib.ListN.{length, getD}
 use lib.Dec.{eqb, ltb}

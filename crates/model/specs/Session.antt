@@ -1,7 +1,7 @@
 -- The session program: what it prints for what it reads (document 01, "Sessions"). Its steps go on states; the calls on bytes
 -- do the same steps on an area of `sessionCapacity`. Assumes nothing: these are definitions.
 use mathlib.Core.List.{List, [], _∷_}
-use mathlib.Core.Bool.{Bool, true, false, cond}
+use mathlib.Core.Bool.{true, false, cond}
 use Prim.Native.Nat.{ℕ, zero, suc}
 use lib.ListN.{length, take, drop}
 use lib.Dec.{leb}

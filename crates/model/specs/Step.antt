@@ -8,7 +8,7 @@ use lib.ListN.{length, getD, set}
 use lib.Dec.{ltb, leb}
 use Rattle.model.specs.Limits.{Limits}
 use Rattle.model.specs.Term.{Node, var, app, Book, Bindings, val, occurs}
-use Rattle.model.specs.Table.{Kind, isHole, Entry, Table, entryOf, place, walk, settle}
+use Rattle.model.specs.Table.{isHole, Entry, Table, entryOf, place, walk, settle}
 
 pub record State : Type 0 where
   pub book : Book

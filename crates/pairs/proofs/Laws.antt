@@ -1,5 +1,5 @@
 -- Laws of the first place of a pair: where it lies, what stands there, and what a further pair changes. Assumes nothing.
-use mathlib.Core.Path.{_≡_, refl, ap, sym, _∙_}
+use mathlib.Core.Path.{_≡_, ap, sym, _∙_}
 use mathlib.Core.List.{List}
 use mathlib.Core.Logic.{_⊎_, inl, inr}
 use Prim.Native.Nat.{ℕ, suc, _≤_, _<_}
@@ -18,10 +18,6 @@ pub record Holds (ls rs : List ℕ) (i a b : ℕ) : Type 0 where
   pub right : getD rs i 0 ≡ b
 
 module _ (ls rs : List ℕ) where
-  -- a place holds the numbers that stand there
-  pub holds-own : (i : ℕ) → Holds ls rs i (getD ls i 0) (getD rs i 0)
-  holds-own i = record { left = refl; right = refl }
-
   -- there are n pairs, each the pair at its place
   pub length-pairs : (n : ℕ) → length (pairsOf ls rs n) ≡ n
   unfolding pairsOf

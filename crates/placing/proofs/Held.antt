@@ -2,7 +2,7 @@
 use mathlib.Core.Path.{_≡_, ap, sym, _∙_}
 use mathlib.Core.List.{List, [], _∷_, _++_, append-assoc, append-nil}
 use mathlib.Core.Logic.{_⊎_, inl, inr}
-use Prim.Native.Nat.{ℕ, zero, suc, _+_, _*_, _-_, _≤_, _<_}
+use Prim.Native.Nat.{ℕ, zero, suc, _*_, _-_, _≤_, _<_}
 use native.Mathlib.Numerals.{unary-clauses}
 use native.Mathlib.Omega.{arith}
 use lib.ListN.{length, getD, take, drop, set, replicate, length-append, length-set, List·getD-append}
@@ -11,7 +11,7 @@ use Rattle.model.specs.Lists.{concatMap, padded}
 use Rattle.model.specs.Table.{Entry, Table, holeAt, entry}
 use Rattle.model.specs.Area.{entryRowWords, entryWords}
 use Rattle.theory.proofs.Lists.Laws.{concatMap-append}
-use Rattle.theory.proofs.Lists.Rows.{Wide, drop-behind, length-rows, row, padded-row}
+use Rattle.theory.proofs.Lists.Rows.{Wide, drop-behind, length-rows, row}
 use Rattle.theory.proofs.Table.Search.{lt-or-le, eq-or-not}
 use Rattle.placing.specs.Stands.{HoldsTable}
 
@@ -82,12 +82,7 @@ module _ {rows : List ℕ} {es : Table} (h : HoldsTable rows es) where
   long : length (concatMap entryWords es) ≡ entryRowWords * length es
   long = length-rows entryWords entryRowWords (holeAt 0 0 0) es (h .wide)
 
-  -- word j of row i, and row i
-  pub held-word : (i j : ℕ) → i < length es → j < entryRowWords → getD rows (entryRowWords * i + j) 0 ≡ getD (entryWords (entry es i)) j 0
-  held-word i j l k =
-      ap (λ (ws : List ℕ). getD ws (entryRowWords * i + j) 0) (h .words) ∙
-      padded-row entryWords entryRowWords (holeAt 0 0 0) (length rows) es (h .wide) i j l k
-
+  -- row i
   pub held-row : (i : ℕ) → i < length es → take entryRowWords (drop (entryRowWords * i) rows) ≡ entryWords (entry es i)
   unfolding padded
   held-row i l =

@@ -3,7 +3,7 @@ use mathlib.Core.Path.{_≡_, sym, ap, _∙_}
 use mathlib.Core.List.{List, _++_}
 use Prim.Native.Nat.{ℕ, _+_, _≤_}
 use native.Mathlib.Omega.{arith}
-use lib.ListN.{length, take, drop, length-append, length-map}
+use lib.ListN.{length, take, length-append, length-map}
 use lib.Seq.{take-at, length-take-le}
 use Rattle.model.specs.Step.{State}
 use Rattle.layout.specs.Rows.{tableOf}

@@ -11,7 +11,7 @@ use Rattle.leb128.specs.declared.Decoded.{Decoded}
 use Rattle.leb128.specs.declared.Decoded.the-variants.{Number, Cut, Invalid}
 use Rattle.text.proofs.Numbers.{Ahead, read-ahead}
 use Rattle.request.specs.declared.Request.{Request}
-use Rattle.request.specs.declared.Request.the-variants.{Ended, Stopped, Line, Choice, Report}
+use Rattle.request.specs.declared.Request.the-variants.{Ended}
 use Rattle.request.specs.Requests.{orStop, withNumber, withTwo, byNumber, requestAt, Behind, RequestsGoOn}
 
 module _ (input : List ℕ) (p : ℕ) where

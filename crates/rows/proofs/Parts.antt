@@ -1,22 +1,18 @@
--- Parts of a list: from place a up to place e, what lies behind, the first of a run, and a run without its first places.
+-- Parts of a list: from place a up to place e, the first of a run, and a run without its first places.
 -- Assumes nothing.
 use mathlib.Core.Path.{_≡_}
 use mathlib.Core.List.{List, [], _∷_}
 use Prim.Native.Nat.{ℕ, zero, suc, _+_, _-_, _<_, _≤_}
-use native.Mathlib.Nat.{le-refl, sub-zero, suc-sub-suc, zero-sub, add-sub-cancel-left}
+use native.Mathlib.Nat.{sub-zero, suc-sub-suc, zero-sub, add-sub-cancel-left}
 use native.Mathlib.Numerals.{add-one}
 use native.Mathlib.Omega.{arith}
 use lib.ListN.{length, getD, take, drop, length-drop}
-use lib.Seq.{take-all, take-nil, drop-cons, drop-drop, length-take-le}
+use lib.Seq.{take-nil, drop-cons, drop-drop, length-take-le}
 
 module _ {A : Type 0} where
   -- the elements from place a up to place e
   abbrev pub part : List A → ℕ → ℕ → List A
   part xs a e = take (e - a) (drop a xs)
-
-  -- all that lies behind the first i
-  pub behind : (xs : List A) (i : ℕ) → part xs i (length xs) ≡ drop i xs
-  behind xs i = take-all (length xs - i) (drop i xs) (rw length-drop (le-refl (length xs - i)))
 
   -- a run of n from place i on
   pub run : (xs : List A) (i n : ℕ) → part xs i (i + n) ≡ take n (drop i xs)

@@ -1,12 +1,12 @@
 -- Laying the header and the term rows into an area and clearing the rest gives the bytes of a state just opened. Assumes
 -- nothing.
-use mathlib.Core.Path.{_≡_, refl, sym, ap, _∙_}
+use mathlib.Core.Path.{_≡_, refl, ap, _∙_}
 use mathlib.Core.List.{List, [], _∷_, _++_, map, append-assoc}
 use mathlib.Core.Option.{none}
 use Prim.Native.Nat.{ℕ, zero, suc, _+_, _*_, _-_, _≤_, zero-le}
 use native.Mathlib.Omega.{arith}
 use lib.ListN.{length, drop, replicate, length-append, length-replicate, replicate-append-replicate}
-use lib.Seq.{take-at, drop-append-add, drop-drop}
+use lib.Seq.{take-at, drop-drop}
 use native.Mathlib.Nat.{add-sub-of-le}
 use Rattle.model.specs.Limits.{Limits}
 use Rattle.model.specs.Lists.{concatMap, padded}

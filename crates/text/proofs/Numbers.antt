@@ -2,20 +2,20 @@
 use mathlib.Core.Path.{_≡_, refl, ap, sym, _∙_}
 use mathlib.Core.List.{List, [], _∷_, _++_, append-assoc, append-nil}
 use Prim.Native.Nat.{ℕ, zero, suc, _+_, _*_, _-_, _≤_, _<_, zero-le, suc-le-suc}
-use native.Mathlib.Nat.{not-suc-le-zero, le-of-suc-le-suc}
+use native.Mathlib.Nat.{not-suc-le-zero}
 use native.Mathlib.Omega.{arith}
 use lib.ListN.{length, getD, drop, length-append, length-drop, drop-of-length-le}
 use Rattle.leb128.specs.Number.{maxGroups, maxNumber, Read, number, cut, invalid, read, readGroups, atMost, write}
 use Rattle.leb128.specs.Answer.{placed, readAt}
 use Rattle.leb128.specs.declared.Decoded.{Decoded}
 use Rattle.leb128.specs.declared.Decoded.the-variants.{Number, Cut, Invalid}
-use Rattle.leb128.proofs.Laws.{reads-what-is-written, within-the-limit, rest-is-a-tail, writes-bytes}
+use Rattle.leb128.proofs.Laws.{reads-what-is-written, within-the-limit, rest-is-a-tail}
 use Rattle.model.specs.Lists.{concatMap}
 use Rattle.model.specs.Report.{numberBytes}
 use Rattle.model.specs.BookBytes.{Parsed, parsed, unparsed, fromRead, parseNumber}
 use Rattle.reader.proofs.Below.{numberOf, number-answered}
 use Rattle.runs.proofs.Over.{Laid, laid-none, laid-more, laid-length}
-use Rattle.text.specs.Text.{maxDigits, numberMost, decimal, spaced, following, consNumber, readNumbers, numbersIn}
+use Rattle.text.specs.Text.{maxDigits, numberMost, spaced, following, consNumber, readNumbers, numbersIn}
 use Rattle.text.proofs.Digits.{small-short}
 
 -- A NUMBER AT A POSITION ends behind it, within the bytes, and is within the limit.

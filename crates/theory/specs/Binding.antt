@@ -1,11 +1,11 @@
 -- What binding a variable does to values (document 01, "Fix a choice"). Statements only.
 use mathlib.Core.Path.{_≡_}
-use mathlib.Core.Bool.{Bool, false, cond}
+use mathlib.Core.Bool.{false, cond}
 use mathlib.Core.Option.{none, some}
 use Prim.Native.Nat.{ℕ, _<_}
 use lib.ListN.{length, getD, set}
 use lib.Dec.{T, eqb}
-use Rattle.model.specs.Term.{Node, var, Book, Bindings, Tree, free, node, Trees, nil, more, deref, occurs, val}
+use Rattle.model.specs.Term.{var, Book, Bindings, Tree, free, node, Trees, nil, more, deref, occurs, val}
 use Rattle.theory.specs.Values.{proper}
 
 -- x put for the variable v in a value

@@ -1,6 +1,6 @@
 -- What a line does to the old entries of any sound state (document 01, "The pair table": entries never move). Statements only.
 use mathlib.Core.Path.{_≡_}
-use mathlib.Core.List.{List, [], _∷_, _++_}
+use mathlib.Core.List.{List, _++_}
 use Prim.Native.Nat.{ℕ}
 use lib.ListN.{length, take}
 use lib.Dec.{T}

@@ -1,6 +1,6 @@
 -- What a report depends on, and what it tells. Statements only.
 use mathlib.Core.Path.{_≡_}
-use mathlib.Core.List.{List, map}
+use mathlib.Core.List.{map}
 use lib.Dec.{T}
 use Prim.Native.Nat.{ℕ}
 use Rattle.model.specs.Limits.{Limits}

@@ -9,7 +9,7 @@ use Rattle.model.specs.Step.{State}
 use Rattle.model.specs.Area.{areaLength, areaBytes, soundState, sound, stateOf}
 use Rattle.model.specs.Call.{over, callOpen, callEntry, callWrite}
 use Rattle.theory.specs.Modest.{Modest}
-use Rattle.theory.specs.Run.{Request, call, run}
+use Rattle.theory.specs.Run.{Request, call}
 
 -- A sound state's bytes, written over an area that is long enough, read back as that state, and the area is sound.
 abbrev pub BytesReadBack : Type 0

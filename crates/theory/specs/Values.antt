@@ -8,7 +8,7 @@ use mathlib.Core.Option.{none, some}
 use Prim.Native.Nat.{ℕ, _≤_, _<_}
 use lib.ListN.{length, getD}
 use lib.Dec.{T, eqb}
-use Rattle.model.specs.Term.{Node, var, app, Book, Bindings, free, node, trees, value, ends, val, name, acyclic}
+use Rattle.model.specs.Term.{var, app, Book, Bindings, free, node, trees, value, ends, val, name, acyclic}
 use Rattle.model.specs.Area.{termsOk}
 
 -- The terms obey the rules, only variables are bound, and no value contains itself.

@@ -4,14 +4,14 @@ use mathlib.Core.List.{List, _∷_, []}
 use mathlib.Core.Bool.{Bool, true, false}
 use native.Mathlib.Omega.{arith}
 use Prim.Native.Nat.{ℕ, _≤_}
-use lib.ListN.{length, drop, length-append, length-drop}
+use lib.ListN.{length, length-append, length-drop}
 use lib.Seq.{drop-append-seam}
 use lib.Dec.{leb}
-use borrow.Author.Tests.{le-leb, leb-true}
+use borrow.Author.Tests.{leb-true}
 use Rattle.model.specs.Limits.{office}
 use Rattle.model.specs.Area.{sound, stateOf}
 use Rattle.model.specs.Report.{reportBytes}
-use Rattle.model.specs.Call.{Outcome, refuse, accept, guard, over, emit, callReport}
+use Rattle.model.specs.Call.{refuse, accept, guard, over, emit, callReport}
 
 module _ (new area out : List ℕ) where
   -- bytes written twice over the front are there once

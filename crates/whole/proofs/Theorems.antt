@@ -19,7 +19,7 @@ use Rattle.model.specs.BookBytes.{Parsed, parsed, unparsed, parseNumber, parseB
 use Rattle.model.specs.Area.{areaLength, areaBytes}
 use Rattle.model.specs.Call.{refuse, accept, guard, over, openParsed, callOpen}
 use Rattle.model.specs.Session as Model
-use Rattle.model.specs.Session.{Printed, steps, begin, withLength, session}
+use Rattle.model.specs.Session.{Printed, begin, withLength, session}
 use Rattle.theory.specs.Lengths.{longestSessionReport}
 use Rattle.theory.proofs.Soundness.Facts.{SoundFacts}
 use Rattle.theory.proofs.Area.Bytes.{over-carries}

@@ -2,7 +2,7 @@
 -- what is proved in proofs/.
 use mathlib.Core.Path.{_≡_}
 use mathlib.Core.List.{List, [], _∷_, _++_}
-use Prim.Native.Nat.{ℕ, zero, suc, _+_, _<_, _≤_}
+use Prim.Native.Nat.{ℕ, zero, suc, _<_, _≤_}
 use lib.ListN.{length}
 use Rattle.model.specs.Limits.{office, sessionCapacity}
 use Rattle.model.specs.Area.{areaLength}

@@ -3,7 +3,6 @@
 use mathlib.Core.Path.{_∙_}
 use Prim.Native.Nat.{_-_}
 use native.Mathlib.Omega.{arith}
-use borrow.Author.Needs.{needs}
 use lib.ListN.{length}
 use Rattle.text.proofs.Lines.{Some, some-none, some-length, some-room, some-end, some-more, some-all, first-length, first-at, line-laid}
 use Rattle.text.proofs.put_line.Statement.{statement}

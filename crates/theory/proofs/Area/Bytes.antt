@@ -6,7 +6,7 @@ use Prim.Native.Nat.{ℕ, _*_, _≤_, _<_}
 use native.Mathlib.Omega.{arith}
 use borrow.Author.Tests.{le-leb, leb-true}
 use lib.ListN.{length, getD, take, drop, take-append-drop, length-append, length-drop}
-use lib.Seq.{take-at, drop-at}
+use lib.Seq.{take-at}
 use lib.Dec.{T, leb}
 use Rattle.model.specs.Limits.{Limits}
 use Rattle.model.specs.Step.{State}
@@ -90,14 +90,3 @@ module _ (lim : Limits) where
   over-length s area f h =
       let e : length (areaBytes lim s) ≡ areaLength lim (s .capacity) = length-areaBytes s f in
       rw (length-append, length-drop) (omega arith)
-
-  -- over an area that carries it already it changes nothing, and the later of two states of one capacity stays
-  pub over-same : (s : State) (area : List ℕ) → SoundFacts lim s → Carries lim s area → over (areaBytes lim s) area ≡ area
-  unfolding over
-  over-same s area f c = rw (length-areaBytes s f) (sym (carried-area s area c))
-
-  pub over-over : (s s′ : State) (area : List ℕ) → SoundFacts lim s → SoundFacts lim s′ → s .capacity ≡ s′ .capacity
-      → areaLength lim (s .capacity) ≤ length area → over (areaBytes lim s′) (over (areaBytes lim s) area) ≡ over (areaBytes lim s′) area
-  unfolding over
-  over-over s s′ area f f′ e h =
-      rw (length-areaBytes s′ f′, ← e, drop-at (areaBytes lim s) _ (areaLength lim (s .capacity)) (length-areaBytes s f), length-areaBytes s f)

@@ -1,34 +1,34 @@
 -- Demand 1, call by call. Assumes nothing.
-use mathlib.Core.Path.{_≡_, refl, sym, _∙_}
-use mathlib.Core.List.{List, [], _∷_, _++_}
-use mathlib.Core.Bool.{Bool, true, false, not, _&&_}
+use mathlib.Core.Path.{_≡_, refl, _∙_}
+use mathlib.Core.List.{List, [], _∷_}
+use mathlib.Core.Bool.{Bool, true, false, _&&_}
 use mathlib.Core.Option.{none, some}
 use Prim.Native.Nat.{ℕ, suc, _≤_, _<_}
 use native.Mathlib.Omega.{arith}
 use borrow.Author.Tests.{ltb-true, leb-true, leb-false}
-use lib.ListN.{length, getD, set, drop, replicate, length-append, length-drop, length-replicate}
+use lib.ListN.{length, getD, set, replicate, length-append, length-drop, length-replicate}
 use lib.Seq.{drop-at}
 use lib.Dec.{T, ltb, leb}
 use Rattle.model.specs.Limits.{Limits}
 use Rattle.model.specs.Term.{var, Book, Bindings, occurs, val}
 use Rattle.model.specs.Table.{Table, entry, place, walk}
-use Rattle.model.specs.Step.{State, Answer, refused, accepted, require, saturate, addLine, isFree, bind, opened}
+use Rattle.model.specs.Step.{State, Answer, refused, accepted, require, saturate, addLine, bind, opened}
 use Rattle.model.specs.Report.{reportBytes}
 use Rattle.model.specs.BookBytes.{Parsed, parsed, unparsed, parseBook, bookBytes}
 use Rattle.model.specs.Area.{entryRowWords, areaLength, areaBytes, entryWords, sound, stateOf}
 use Rattle.model.specs.Call.{Outcome, refuse, accept, guard, over, emit, copyParsed, openParsed, stepped, callOpen, callAdd, callBind, callEntry, callReport, callWrite, callCopy}
-use Rattle.theory.specs.Run.{Request, add, fix, after}
+use Rattle.theory.specs.Run.{add, fix, after}
 use Rattle.theory.specs.Walk.{EndsWithin}
 use Rattle.theory.specs.Tests.{Test, Decides, refuses, bookTests, openTests, entryTests}
 use Rattle.theory.specs.Demand1.{Answers, SameBeyond, OutputBeyond, Demand1}
-use Rattle.theory.proofs.Lists.Laws.{T-true, true-T}
+use Rattle.theory.proofs.Lists.Laws.{true-T}
 use Rattle.theory.proofs.Soundness.Facts.{SoundFacts}
 use Rattle.theory.proofs.Table.WalkLength.{ends-fits}
-use Rattle.theory.proofs.Area.Bytes.{length-areaBytes, over-length}
+use Rattle.theory.proofs.Area.Bytes.{length-areaBytes}
 use Rattle.theory.proofs.Area.Layout.{wide-entries}
 use Rattle.theory.proofs.Book.Round.{opened-sound}
 use Rattle.theory.proofs.Runs.States.{refusalOf, next-sound, next-capacity}
-use Rattle.theory.proofs.Runs.Simulation.{Lives, stepped-refusal, emit-area, sound-lives}
+use Rattle.theory.proofs.Runs.Simulation.{stepped-refusal, emit-area, sound-lives}
 use Rattle.theory.proofs.Refusals.Deciding.{Tells, holds, fails, tells, tells-T, tells-lt, tells-le, tells-both, tells-not, tells-free, guard-decides, require-decides}
 use Rattle.theory.proofs.Refusals.Book.{Follows, book-follows}
 

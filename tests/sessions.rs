@@ -324,14 +324,15 @@ fn worked() -> Vec<(Vec<u8>, &'static str)> {
 }
 
 /// The sessions that take longest of those tried, each filled up to the last byte with the same steps, and the length of its first
-/// part, which ends with a step. Behind three variables each term is over eight times the one before it. Either the line of the last
-/// two terms and three lines of variables fill the table, so that a choice needs an entry too many at once; or the table is nearly
-/// empty, and a choice walks through as many entries as there may be before it needs one too many.
+/// part, which ends with a step. Behind three variables each term is over the one before it and seven times the first variable: eight
+/// arguments in few bytes, so that there is room for steps. Either the line of the last two terms and three lines of variables fill the
+/// table, so that a choice needs an entry too many at once; or the table is nearly empty, and a choice walks through as many entries as
+/// there may be before it needs one too many.
 fn slow() -> Vec<(&'static str, Vec<u8>, usize)> {
     let term = |own: u32| match own {
         0..=2 => Term::Variable,
-        3 => over(4_095, &[0; 8]),
-        _ => over(4_095, &[own - 1; 8]),
+        3 => over(7, &[0; 8]),
+        _ => over(7, &[own - 1, 0, 0, 0, 0, 0, 0, 0]),
     };
     let book = encode(&(0..1_024).map(term).collect::<Vec<Term>>());
     let bytes = |calls: &[Call]| {

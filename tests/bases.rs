@@ -298,14 +298,25 @@ fn few_buckets() -> Base {
     base
 }
 
+/// The measured table after half of its variables are bound to the others, so that many entries have the values of another.
+fn joined() -> Base {
+    let mut base = measured(&mut Random(1024), 1024, 2048);
+    for v in 0..32 {
+        base.step(Call::Bind { v, t: v + 32 });
+    }
+    base
+}
+
 /// The bases that are hardest on one part of the work each: a chain of bindings, a deep term, values that are large as trees, a table
-/// filled to the brim, an index whose pairs share few buckets, and terms that a linear hash does not tell apart.
-pub fn hard() -> [(&'static str, Base); 6] {
+/// filled to the brim, entries with the values of others, an index whose pairs share few buckets, and terms that a linear hash does not
+/// tell apart.
+pub fn hard() -> [(&'static str, Base); 7] {
     [
         ("a chain of 1,023 bindings", chain(true)),
         ("terms 1,024 deep", deep()),
         ("511 levels, doubled", ladder()),
         ("a full table", brim(0)),
+        ("entries of one value", joined()),
         ("1,816 pairs in 24 buckets", few_buckets()),
         ("484 terms of one linear hash", one_hash()),
     ]

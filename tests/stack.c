@@ -39,6 +39,7 @@ static void make_book(void)
     }
 }
 
+static void run_length(void) { refusal = fit_area_length(CAPACITY) != area_length; }
 static void run_open(void) { refusal = fit_open(CAPACITY, book, book_length, area, area_length); }
 static void run_copy(void) { refusal = fit_copy_book(book, book_length, out, sizeof out, &first); }
 static void run_bind(void) { refusal = fit_bind(area, area_length, 0, TERMS - 1, &first, &second); }
@@ -90,6 +91,7 @@ int main(void)
     area = calloc(area_length, 1);
     make_book();
     size_t base = used(run_nothing);
+    measure("fit_area_length", run_length, base);
     measure("fit_open", run_open, base);
     measure("fit_copy_book", run_copy, base);
     measure("fit_bind", run_bind, base);

@@ -1,38 +1,10 @@
-// An area's header (docs/LAYOUT.md). The rows of a part are loaded and stored by `words::load` and `words::store` at the word where
-// it begins (`layout::offsets`).
+// An area's bytes and the state that they hold: the state loaded, the test whether an area of any bytes is sound, and a state
+// stored.
+//
+// load  the header and the words of each part, loaded and tested in parts
+// test  whether an area is sound; then its state is loaded for a step
+// save  a state stored into an area, and a book just opened
 
-ghost use mathlib.Core.Path.{_≡_};
-ghost use Prim.Native.Nat.{_*_, _≤_};
-ghost use lib.ListN.{length};
-ghost use Rattle.model.specs.Area.{wordSize, headerWords, word};
-ghost use Rattle.words.specs.Words.{laid};
-ghost use Rattle.area.specs.Row.{wordsOf};
-
-// The header of an area.
-pub struct Header {
-    pub capacity: u32,
-    pub terms: u32,
-    pub entries: u32,
-    pub lines: u32,
-}
-
-pub fn load_header(area: &[u8]) -> Header
-    requires { ⌜ wordSize * headerWords ≤ length (now area) ⌝ }
-    ensures { λ r. ⌜ (r .capacity ≡ word (now (area .entry)) 0) × (r .terms ≡ word (now (area .entry)) 1)
-        × (r .entries ≡ word (now (area .entry)) 2) × (r .lines ≡ word (now (area .entry)) 3) ⌝ }
-{
-    Header {
-        capacity: words::word_at(area, 0),
-        terms: words::word_at(area, layout::WORD_BYTES),
-        entries: words::word_at(area, 2 * layout::WORD_BYTES),
-        lines: words::word_at(area, 3 * layout::WORD_BYTES),
-    }
-}
-
-pub fn store_header(area: &mut [u8], h: Header)
-    requires { ⌜ wordSize * headerWords ≤ length (now area) ⌝ }
-    ensures { λ _. ⌜ now (area .exit) ≡ laid (now (area .entry)) 0 (wordsOf h) ⌝ }
-{
-    let words = [h.capacity, h.terms, h.entries, h.lines];
-    words::store(area, 0, &words);
-}
+pub mod load;
+pub mod save;
+pub mod test;

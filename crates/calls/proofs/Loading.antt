@@ -6,18 +6,18 @@ use native.Mathlib.Omega.{arith}
 use lib.ListN.{length, take, length-take}
 use Rattle.model.specs.Limits.{Limits}
 use Rattle.model.specs.Area.{entryRowWords, word}
-use Rattle.names.proofs.Lowest.{scratch-kept}
+use Rattle.values.proofs.names.Lowest.{scratch-kept}
 use Rattle.pairs.proofs.Rooms.{room-kept}
-use Rattle.area.specs.declared.Header.{Header}
-use Rattle.area.specs.Held.{held}
-use Rattle.state.specs.Loading.{headerOf}
-use Rattle.state.specs.Ready.{Lent, Read}
-use Rattle.reading.proofs.Whole.{HeaderOf}
+use Rattle.layout.specs.declared.header.Header.{Header}
+use Rattle.layout.specs.header.Held.{held}
+use Rattle.area.specs.load.Loading.{headerOf}
+use Rattle.area.specs.load.Ready.{Lent, ReadFrom}
+use Rattle.area.proofs.test.Whole.{HeaderOf}
 
 -- slices of the same lengths have room for the same states
-pub lent-kept : {lim : Limits} {list roots names ls rs cells list′ roots′ names′ ls′ rs′ cells′ : List ℕ} → Lent lim list roots names ls rs cells
-    → length list′ ≡ length list → length roots′ ≡ length roots → length names′ ≡ length names → length ls′ ≡ length ls → length rs′ ≡ length rs
-    → length cells′ ≡ length cells → Lent lim list′ roots′ names′ ls′ rs′ cells′
+pub lent-kept : {lim : Limits} {list roots names lefts rights cells list′ roots′ names′ lefts′ rights′ cells′ : List ℕ} → Lent lim list roots names lefts rights cells
+    → length list′ ≡ length list → length roots′ ≡ length roots → length names′ ≡ length names → length lefts′ ≡ length lefts → length rights′ ≡ length rights
+    → length cells′ ≡ length cells → Lent lim list′ roots′ names′ lefts′ rights′ cells′
 lent-kept l i o n p q c =
     let t = l .for-terms in
     record {
@@ -26,13 +26,13 @@ lent-kept l i o n p q c =
     }
 
 module _ {lim : Limits} {area rows bindings lines list roots names : List ℕ} {h : Header} (entries : List ℕ) (head : HeaderOf area h)
-    (r : Read lim area (held (headerOf area) rows bindings lines (take (entryRowWords * word area 0) entries)) list roots names) where
+    (r : ReadFrom lim area (held (headerOf area) rows bindings lines (take (entryRowWords * word area 0) entries)) list roots names) where
   -- the rows of the capacity lie in the slice
   pub front-fits : entryRowWords * h .capacity ≤ length entries
   unfolding headerOf
   front-fits = omega (arith, head .0, length-take (entryRowWords * word area 0) entries, r .ready .sizes .entries-size)
 
   -- and are what was read
-  pub front-read : Read lim area (held h rows bindings lines (take (entryRowWords * h .capacity) entries)) list roots names
+  pub front-read : ReadFrom lim area (held h rows bindings lines (take (entryRowWords * h .capacity) entries)) list roots names
   unfolding headerOf
   front-read = rw (head .0, head .1, head .2, head .3) r

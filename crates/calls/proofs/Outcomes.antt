@@ -1,9 +1,10 @@
 -- From a step's answer to the outcome of its call. Assumes nothing.
 use mathlib.Core.Path.{_≡_, refl, sym, ap, _∙_}
 use mathlib.Core.List.{List, [], _∷_}
-use mathlib.Core.Bool.{Bool, true, false}
+use mathlib.Core.Bool.{true, false}
 use Prim.Native.Nat.{ℕ, _≤_}
-use lib.ListN.{length}
+use lib.ListN.{length, replicate}
+use borrow.Author.Tests.{ne-eqb}
 use Rattle.model.specs.Limits.{Limits}
 use Rattle.model.specs.Lists.{concatMap}
 use Rattle.model.specs.Step.{State, Answer, refused, accepted}
@@ -11,69 +12,89 @@ use Rattle.model.specs.Area.{wordSize, toBytes, areaBytes, areaLength, sound, s
 use Rattle.model.specs.Call.{Outcome, refuse, accept, guard, over, stepped, callAdd, callBind}
 use Rattle.theory.proofs.Area.Bytes.{sound-carries}
 use Rattle.theory.proofs.Lists.Laws.{true-T}
-use Rattle.layout.specs.Rows.{Loaded, Sized, loadedState}
-use Rattle.steps.specs.declared.Stepped.{Stepped}
-use Rattle.steps.specs.Stepped.{Gives}
-use Rattle.stepping.specs.Step.{stepOf, numbersOf, storedBytes}
-use Rattle.stepping.proofs.Answers.{stored, not-stored}
-use Rattle.calls.specs.Called.{callStep, Called}
+use Rattle.layout.specs.limits.Rows.{Loaded, Sized, loadedState}
+use Rattle.step.specs.declared.answer.Step.{Step}
+use Rattle.step.specs.declared.answer.Step.the-variants.{Add, Bind}
+use Rattle.step.specs.declared.answer.StepAnswer.{StepAnswer}
+use Rattle.step.specs.declared.answer.StepAnswer.the-variants.{Refused}
+use Rattle.step.specs.answer.Stepped.{refusalNumber, entryNumber, turnedNumber, appendedNumber, stepNumbers, acceptedAs, Gives}
+use Rattle.step.specs.take.Taking.{stepOf, storedBytes}
+use Rattle.step.proofs.take.Answers.{stored, not-stored}
+use Rattle.calls.specs.Called.{callStep, answerTo, Called}
 
--- The refusal, the numbers and the area are those of an outcome.
-abbrev Answered : Outcome → ℕ → List ℕ → List ℕ → Type 0
-Answered o refusal numbers area = (refusal ≡ o .refusal) × (numbers ≡ o .numbers) × (area ≡ o .area)
+-- how many numbers a step answers
+unfoldable count : Step → ℕ
+count (Add l r) = 1
+count (Bind v t) = 2
 
-module _ (lim : Limits) (w : Loaded) (refusal : ℕ) (numbers : List ℕ) where
+-- a refusal has as many zeros, and an accepted step no refusal
+refused-numbers : (step : Step) (n : ℕ) → stepNumbers step (Refused n) ≡ replicate (count step) 0
+unfolding count stepNumbers
+refused-numbers (Add l r) n = refl
+refused-numbers (Bind v t) n = refl
+
+accepted-refusal : (step : Step) (ns : List ℕ) → refusalNumber (acceptedAs step ns) ≡ 0
+unfolding acceptedAs
+accepted-refusal (Add l r) ns = refl
+accepted-refusal (Bind v t) ns = refl
+
+module _ (lim : Limits) (w : Loaded) (step : Step) where
   -- what a step gives is the outcome of its answer
-  answered : (area area′ : List ℕ) (answer : Answer) → Gives lim answer refusal numbers w → area′ ≡ storedBytes refusal w area
-      → Answered (stepped lim (length numbers) area answer) refusal numbers area′
-  unfolding Gives stepped refuse accept areaBytes
-  answered area area′ (refused n) g e = (g .0, g .2, e ∙ not-stored refusal w area (λ h. g .1 (sym (g .0) ∙ h)))
-  answered area area′ (accepted ns s) g e =
-      (g .0, g .1, e ∙ stored refusal w area (g .0) ∙ ap (λ ws. over (concatMap (toBytes wordSize) ws) area) (g .2 .words))
+  answered : (area area′ : List ℕ) (answer : Answer) (a : StepAnswer) → Gives lim step answer a w → area′ ≡ storedBytes (refusalNumber a) w area
+      → Called (stepped lim (count step) area answer) step a area′
+  unfolding Gives stepped refuse accept areaBytes answerTo
+  answered area area′ (refused n) a g e =
+      record {
+        answer = g .0 ∙ rw (ne-eqb n 0 (g .1));
+        refusal = rw (g .0);
+        numbers = rw (g .0) (refused-numbers step n);
+        bytes = e ∙ not-stored (refusalNumber a) w area (λ h. g .1 (sym (rw (g .0)) ∙ h));
+      }
+  answered area area′ (accepted ns s) a g e =
+      let none : refusalNumber a ≡ 0 = rw (g .0) (accepted-refusal step ns) in
+      record {
+        answer = g .0;
+        refusal = none;
+        numbers = g .1;
+        bytes = e ∙ stored (refusalNumber a) w area none ∙ ap (λ ws. over (concatMap (toBytes wordSize) ws) area) (g .2 .words);
+      }
 
   -- where it is accepted, its parts have their lengths
-  pub answer-sized : (answer : Answer) → Gives lim answer refusal numbers w → refusal ≡ 0 → Sized lim w
+  pub answer-sized : (answer : Answer) (a : StepAnswer) → Gives lim step answer a w → refusalNumber a ≡ 0 → Sized lim w
   unfolding Gives
-  answer-sized (refused n) g e = absurd (g .1 (sym (g .0) ∙ e))
-  answer-sized (accepted ns s) g e = g .2 .sized
+  answer-sized (refused n) a g e = absurd (g .1 (rw (g .0) at e))
+  answer-sized (accepted ns s) a g e = g .2 .sized
 
-module _ (lim : Limits) (area : List ℕ) (a b : ℕ) where
-  -- a refusal with zeros of an area that is not sound
-  abbrev seven : Stepped
-  seven = record { refusal = 7; first = 0; second = 0; entries = 0; lines = 0 }
-
-  unsound : (fixes : Bool) → sound lim area ≡ false → Called (callStep lim fixes area a b) fixes seven area
-  unfolding callStep callAdd callBind guard refuse numbersOf
-  unsound true h = rw h (record { refusal = refl; numbers = refl; bytes = refl })
-  unsound false h = rw h (record { refusal = refl; numbers = refl; bytes = refl })
-
-  pub called-seven : {fixes : Bool} {s : Stepped} → s ≡ seven → sound lim area ≡ false → Called (callStep lim fixes area a b) fixes s area
-  called-seven {fixes} e h = rw e (unsound fixes h)
+module _ (lim : Limits) (area : List ℕ) where
+  -- an area that is not sound
+  pub called-seven : (step : Step) → sound lim area ≡ false → Called (callStep lim step area) step (Refused 7) area
+  unfolding callStep callAdd callBind guard refuse answerTo stepNumbers
+  called-seven (Add l r) h = rw h (record { answer = refl; refusal = refl; numbers = refl; bytes = refl })
+  called-seven (Bind v t) h = rw h (record { answer = refl; refusal = refl; numbers = refl; bytes = refl })
 
   -- the outcome on a sound area is that of the step on its state
-  of-step : (fixes : Bool) (s : Stepped) → sound lim area ≡ true
-      → callStep lim fixes area a b ≡ stepped lim (length (numbersOf fixes s)) area (stepOf lim fixes (stateOf area lim) a b)
-  unfolding callStep stepOf callAdd callBind guard numbersOf
-  of-step true s h = rw h
-  of-step false s h = rw h
+  of-step : (step : Step) → sound lim area ≡ true → callStep lim step area ≡ stepped lim (count step) area (stepOf lim step (stateOf area lim))
+  unfolding callStep stepOf callAdd callBind guard count
+  of-step (Add l r) h = rw h
+  of-step (Bind v t) h = rw h
 
-  pub called : (w w′ : Loaded) {fixes : Bool} {s : Stepped} {area′ : List ℕ} → sound lim area ≡ true → loadedState w ≡ stateOf area lim
-      → Gives lim (stepOf lim fixes (loadedState w) a b) (s .refusal) (numbersOf fixes s) w′ → area′ ≡ storedBytes (s .refusal) w′ area
-      → Called (callStep lim fixes area a b) fixes s area′
-  called w w′ {fixes} {s} {area′} t same g e =
-      let o = answered lim w′ (s .refusal) (numbersOf fixes s) area area′ (stepOf lim fixes (stateOf area lim) a b) (rw same at g) e in
-      rw (of-step fixes s t) (record { refusal = o .0; numbers = o .1; bytes = o .2 })
+  pub called : (w w′ : Loaded) (step : Step) {a : StepAnswer} {area′ : List ℕ} → sound lim area ≡ true → loadedState w ≡ stateOf area lim
+      → Gives lim step (stepOf lim step (loadedState w)) a w′ → area′ ≡ storedBytes (refusalNumber a) w′ area
+      → Called (callStep lim step area) step a area′
+  called w w′ step {a} {area′} t same g e =
+      rw (of-step step t) (answered lim w′ step area area′ (stepOf lim step (stateOf area lim)) a (rw same at g) e)
 
   -- either call by itself: a line was added, or a choice was fixed
-  module _ {s : Stepped} {area′ : List ℕ} where
-    pub line-added : Called (callStep lim false area a b) false s area′
-        → let o = callAdd lim area a b in (s .refusal ≡ o .refusal) × ((s .first ∷ [] ≡ o .numbers) × (area′ ≡ o .area))
-    unfolding callStep numbersOf
+  module _ {a : StepAnswer} {area′ : List ℕ} where
+    pub line-added : {l r : ℕ} → Called (callStep lim (Add l r) area) (Add l r) a area′
+        → let o = callAdd lim area l r in (refusalNumber a ≡ o .refusal) × ((entryNumber a ∷ [] ≡ o .numbers) × (area′ ≡ o .area))
+    unfolding callStep stepNumbers
     line-added c = (c .refusal, (c .numbers, c .bytes))
 
-    pub choice-fixed : Called (callStep lim true area a b) true s area′
-        → let o = callBind lim area a b in (s .refusal ≡ o .refusal) × ((s .first ∷ s .second ∷ [] ≡ o .numbers) × (area′ ≡ o .area))
-    unfolding callStep numbersOf
+    pub choice-fixed : {v t : ℕ} → Called (callStep lim (Bind v t) area) (Bind v t) a area′
+        → let o = callBind lim area v t in
+        (refusalNumber a ≡ o .refusal) × ((turnedNumber a ∷ appendedNumber a ∷ [] ≡ o .numbers) × (area′ ≡ o .area))
+    unfolding callStep stepNumbers
     choice-fixed c = (c .refusal, (c .numbers, c .bytes))
 
 -- a sound area has room for what is stored

@@ -1,65 +1,70 @@
-// A line added or a choice fixed on an area's bytes: the area is tested and loaded, the step is taken on the loaded state, and what
-// it leaves is stored (document 01, "Add a line", "Fix a choice").
+// A step on an area's bytes: the area is tested and loaded, the step is taken on the loaded state, and what it leaves is stored
+// (document 01, "Add a line", "Fix a choice").
 
 ghost use Rattle.theory.specs.Modest.{Modest};
-ghost use Rattle.layout.specs.Limits.{limitsOf};
-ghost use Rattle.state.specs.Loading.{Sizes};
-ghost use Rattle.state.specs.Ready.{Lent};
+ghost use Rattle.layout.specs.limits.Limits.{limitsOf};
+ghost use Rattle.area.specs.load.Loading.{Sizes};
+ghost use Rattle.area.specs.load.Ready.{Lent};
 ghost use Rattle.calls.specs.Called.{callStep, Called};
-use layout::Limits;
-use stepping::Request;
-use steps::Stepped;
+use layout::limits::Limits;
+use step::answer::Step;
+use step::answer::StepAnswer;
 
-// Fixes the choice (`a`, `b`), or adds the line (`a`, `b`). The slices are those of `reading::sound`.
-pub fn step(
-    rows: &mut [u32],
-    bound: &mut [u32],
-    lines: &mut [u32],
-    entries: &mut [u32],
+// Takes a step on an area of any length and any bytes. The slices are those of `area::test::sound`.
+pub fn call_step(
     area: &mut [u8],
     lim: Limits,
-    seq: &mut [u32],
+    rows: &mut [u32],
+    bindings: &mut [u32],
+    list: &mut [u32],
     roots: &mut [u32],
     names: &mut [u32],
-    ls: &mut [u32],
-    rs: &mut [u32],
-    cs: &mut [u32],
-    fixes: bool,
-    a: u32,
-    b: u32,
-) -> Stepped
+    lines: &mut [u32],
+    entries: &mut [u32],
+    step: Step,
+    lefts: &mut [u32],
+    rights: &mut [u32],
+    cells: &mut [u32],
+) -> StepAnswer
     requires modest { ⌜ Modest (limitsOf lim) ⌝ }
-    requires sizes { ⌜ Sizes (limitsOf lim) (lim .capacity) (now rows) (now bound) (now lines) (now entries) ⌝ }
-    requires lent { ⌜ Lent (limitsOf lim) (now seq) (now roots) (now names) (now ls) (now rs) (now cs) ⌝ }
-    ensures { λ s. ⌜ Called (callStep (limitsOf lim) fixes (now (area .entry)) a b) fixes s (now (area .exit)) ⌝ }
+    requires sizes { ⌜ Sizes (limitsOf lim) (lim .capacity) (now rows) (now bindings) (now lines) (now entries) ⌝ }
+    requires lent { ⌜ Lent (limitsOf lim) (now list) (now roots) (now names) (now lefts) (now rights) (now cells) ⌝ }
+    ensures { λ a. ⌜ Called (callStep (limitsOf lim) step (now (area .entry))) step a (now (area .exit)) ⌝ }
 {
-    if !reading::sound(
-        rows,
-        bound,
-        lines,
+    if !area::test::sound(
+        area,
         lim,
-        entries,
-        seq,
+        rows,
+        bindings,
+        list,
         roots,
         names,
-        area,
-        ls,
-        rs,
-        cs,
+        lines,
+        entries,
+        lefts,
+        rights,
+        cells,
     ) {
-        return steps::refused(7);
+        return StepAnswer::Refused(7);
     }
-    let h = area::load_header(area);
-    let end = layout::ENTRY_WORDS * (h.capacity as usize);
-    let es = &mut entries[..end];
-    let q = Request {
+    let h = layout::header::load_header(area);
+    let end = layout::limits::ENTRY_WORDS * (h.capacity as usize);
+    let table = &mut entries[..end];
+    let s = step::take::take(
         lim,
         h,
-        fixes,
-        a,
-        b,
-    };
-    let s = stepping::take(bound, lines, es, rows, seq, roots, names, q, ls, rs, cs);
-    stepping::keep(area, lim, h, s, rows, bound, lines, es);
-    s
+        rows,
+        bindings,
+        list,
+        roots,
+        names,
+        lines,
+        table,
+        step,
+        lefts,
+        rights,
+        cells,
+    );
+    step::take::keep(area, lim, h, s, rows, bindings, lines, table);
+    s.answer
 }

@@ -4,14 +4,49 @@ ghost use mathlib.Core.Path.{_≡_};
 ghost use mathlib.Core.List.{[], _∷_};
 ghost use Rattle.model.specs.Limits.{office};
 ghost use Rattle.model.specs.Call.{callOpen, callAdd, callBind, callCopy, callEntry, callReport, callWrite};
-ghost use Rattle.opening.specs.Offered.{neededLength};
+ghost use Rattle.office.specs.opening.Offered.{neededLength};
+ghost use Rattle.step.specs.answer.Stepped.{entryNumber, turnedNumber, appendedNumber};
+use step::answer::Step;
+use step::answer::StepAnswer;
+
+// The numbers of a step's answer: the entry of a line, how many entries a choice turned and how many it appended; 0 where the answer has
+// none.
+fn entry_number(answer: StepAnswer) -> u32
+    ensures { λ r. ⌜ r ≡ entryNumber answer ⌝ }
+{
+    match answer {
+        StepAnswer::Refused(n) => 0,
+        StepAnswer::Added(entry) => entry,
+        StepAnswer::Bound(turned, appended) => 0,
+    }
+}
+
+fn turned_number(answer: StepAnswer) -> u32
+    ensures { λ r. ⌜ r ≡ turnedNumber answer ⌝ }
+{
+    match answer {
+        StepAnswer::Refused(n) => 0,
+        StepAnswer::Added(entry) => 0,
+        StepAnswer::Bound(turned, appended) => turned,
+    }
+}
+
+fn appended_number(answer: StepAnswer) -> u32
+    ensures { λ r. ⌜ r ≡ appendedNumber answer ⌝ }
+{
+    match answer {
+        StepAnswer::Refused(n) => 0,
+        StepAnswer::Added(entry) => 0,
+        StepAnswer::Bound(turned, appended) => appended,
+    }
+}
 
 // The length in bytes that an area of this capacity needs, 0 for a capacity out of range.
 #[no_mangle]
 pub extern "C" fn fit_area_length(capacity: u32) -> usize
     ensures { λ r. ⌜ r ≡ neededLength capacity ⌝ }
 {
-    opening::area_length(capacity)
+    office::opening::area_length(capacity)
 }
 
 // Opens a book in an area: 4 for the capacity, 7 for an area that is too short, then the book's refusals. Where it is
@@ -21,7 +56,7 @@ pub extern "C" fn fit_open(capacity: u32, book: &[u8], area: &mut [u8]) -> u32
     ensures refusal { λ r. ⌜ r ≡ callOpen office capacity (now (book .entry)) (now (area .entry)) .refusal ⌝ }
     ensures area { λ r. ⌜ now (area .exit) ≡ callOpen office capacity (now (book .entry)) (now (area .entry)) .area ⌝ }
 {
-    opening::open(capacity, book, area)
+    office::opening::open(capacity, book, area)
 }
 
 // Adds the line (`l`, `r`): 7 for an area that is not sound, 8 where one is no term, 12 where there is no room for a line, 11 where
@@ -32,9 +67,9 @@ pub extern "C" fn fit_add(area: &mut [u8], l: u32, r: u32, entry: &mut u32) -> u
     ensures entry { λ n. ⌜ now (entry .exit) ∷ [] ≡ callAdd office (now (area .entry)) l r .numbers ⌝ }
     ensures area { λ n. ⌜ now (area .exit) ≡ callAdd office (now (area .entry)) l r .area ⌝ }
 {
-    let s = office::step(area, false, l, r);
-    *entry = s.first;
-    s.refusal
+    let answer = office::steps::step(area, Step::Add(l, r));
+    *entry = entry_number(answer);
+    step::answer::refusal_number(answer)
 }
 
 // Fixes the choice (`v`, `t`): 7 for an area that is not sound, 8 where one is no term, 9 where `v` is not a free variable, 10 where
@@ -52,10 +87,10 @@ pub extern "C" fn fit_bind(
     ensures counts { λ n. ⌜ now (turned .exit) ∷ now (appended .exit) ∷ [] ≡ callBind office (now (area .entry)) v t .numbers ⌝ }
     ensures area { λ n. ⌜ now (area .exit) ≡ callBind office (now (area .entry)) v t .area ⌝ }
 {
-    let s = office::step(area, true, v, t);
-    *turned = s.first;
-    *appended = s.second;
-    s.refusal
+    let answer = office::steps::step(area, Step::Bind(v, t));
+    *turned = turned_number(answer);
+    *appended = appended_number(answer);
+    step::answer::refusal_number(answer)
 }
 
 // Reads a book and writes it back, with no area: the book's refusals, then 13 where `out` is too short. `written` is the
@@ -66,17 +101,21 @@ pub extern "C" fn fit_copy_book(book: &[u8], out: &mut [u8], written: &mut u32) 
     ensures written { λ r. ⌜ now (written .exit) ∷ [] ≡ callCopy office (now (book .entry)) (now (out .entry)) .numbers ⌝ }
     ensures output { λ r. ⌜ now (out .exit) ≡ callCopy office (now (book .entry)) (now (out .entry)) .output ⌝ }
 {
-    copying::copy_book(book, out, written)
+    office::copy::copy_book(book, out, written)
 }
 
 // Reads an entry: 7 for an area that is not sound, 8 where there is no such entry. `fields` are left, right, kind, symbol, count,
 // the eight argument places and same-as, zeros on a refusal.
 #[no_mangle]
-pub extern "C" fn fit_entry(area: &[u8], i: u32, fields: &mut [u32; layout::ENTRY_WORDS]) -> u32
+pub extern "C" fn fit_entry(
+    area: &[u8],
+    i: u32,
+    fields: &mut [u32; layout::limits::ENTRY_WORDS],
+) -> u32
     ensures refusal { λ r. ⌜ r ≡ callEntry office (now (area .entry)) i .refusal ⌝ }
     ensures fields { λ r. ⌜ now (fields .exit) ≡ callEntry office (now (area .entry)) i .numbers ⌝ }
 {
-    viewing::entry(area, i, fields)
+    office::entry::entry(area, i, fields)
 }
 
 // Writes the book of an area: 7 for an area that is not sound, then 13 where `out` is too short. `written` is the number of bytes
@@ -87,7 +126,7 @@ pub extern "C" fn fit_write(area: &[u8], out: &mut [u8], written: &mut u32) -> u
     ensures written { λ r. ⌜ now (written .exit) ∷ [] ≡ callWrite office (now (area .entry)) (now (out .entry)) .numbers ⌝ }
     ensures output { λ r. ⌜ now (out .exit) ≡ callWrite office (now (area .entry)) (now (out .entry)) .output ⌝ }
 {
-    writing::write(area, out, written)
+    office::books::write(area, out, written)
 }
 
 // Reports an area: 7 for an area that is not sound, then 13 where `out` is too short. `written` is the number of bytes written,
@@ -98,5 +137,5 @@ pub extern "C" fn fit_report(area: &[u8], out: &mut [u8], written: &mut u32) -> 
     ensures written { λ r. ⌜ now (written .exit) ∷ [] ≡ callReport office (now (area .entry)) (now (out .entry)) .numbers ⌝ }
     ensures output { λ r. ⌜ now (out .exit) ≡ callReport office (now (area .entry)) (now (out .entry)) .output ⌝ }
 {
-    reporting::report(area, out, written)
+    office::reports::report(area, out, written)
 }

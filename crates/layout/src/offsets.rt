@@ -5,15 +5,15 @@ ghost use mathlib.Core.Path.{_≡_};
 ghost use Prim.Native.Nat.{_≤_};
 ghost use Rattle.model.specs.Area.{bindingsAt, linesAt, entriesAt, areaLength};
 ghost use Rattle.theory.specs.Modest.{Modest};
-ghost use Rattle.layout.specs.Limits.{limitsOf};
-use crate::Limits;
+ghost use Rattle.layout.specs.limits.Limits.{limitsOf};
+use crate::limits::Limits;
 
 // The words at which the bindings, the lines and the entries begin.
 pub fn bindings_at(lim: Limits) -> usize
     requires { ⌜ Modest (limitsOf lim) ⌝ }
     ensures { λ r. ⌜ r ≡ bindingsAt (limitsOf lim) ⌝ }
 {
-    crate::HEADER_WORDS + crate::TERM_WORDS * lim.terms
+    crate::limits::HEADER_WORDS + crate::limits::TERM_WORDS * lim.terms
 }
 
 pub fn lines_at(lim: Limits) -> usize
@@ -35,5 +35,5 @@ pub fn needed_length(lim: Limits, capacity: usize) -> usize
     requires { ⌜ Modest (limitsOf lim) × (capacity ≤ lim .capacity) ⌝ }
     ensures { λ r. ⌜ r ≡ areaLength (limitsOf lim) capacity ⌝ }
 {
-    crate::WORD_BYTES * (entries_at(lim) + crate::ENTRY_WORDS * capacity)
+    crate::limits::WORD_BYTES * (entries_at(lim) + crate::limits::ENTRY_WORDS * capacity)
 }

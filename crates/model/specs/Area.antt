@@ -3,10 +3,10 @@
 use mathlib.Core.List.{List, [], _∷_, _++_, map}
 use mathlib.Core.Bool.{Bool, true, false, cond, not, _&&_}
 use mathlib.Core.Option.{Option, none, some}
-use Prim.Native.Nat.{ℕ, zero, suc, _+_, _*_, _-_, _/_, _%_}
+use Prim.Native.Nat.{ℕ, zero, suc, _+_, _*_, _-_, _/_, _%_, _≤_}
 use lib.ListN.{length, getD, take, drop}
 use lib.Dec.{eqb, ltb, leb}
-use Rattle.model.specs.Limits.{Limits, maxArity, maxSymbol}
+use Rattle.model.specs.Limits.{Limits, office, longestArea, maxArity, maxSymbol}
 use Rattle.model.specs.Lists.{all, from, concatMap, isEmpty, eqNumbers, padded}
 use Rattle.model.specs.Term.{Node, var, app, symbol, arguments, alike, Book, Bindings, eqTree, val, root, acyclic}
 use Rattle.model.specs.Table.{Kind, hole, common, Entry, Table, entry, holds, entryOf}
@@ -50,6 +50,10 @@ module _ (lim : Limits) where
   -- The length that an area needs, in bytes: it follows from the capacity.
   unfoldable pub areaLength : ℕ → ℕ
   areaLength capacity = wordSize * (entriesAt + entryRowWords * capacity)
+
+-- STATEMENT. At every capacity of the office an area needs at most 1,048,576 bytes (proofs/Length.antt).
+abbrev pub NeededLength : Type 0
+NeededLength = (capacity : ℕ) → capacity ≤ office .maxCapacity → areaLength office capacity ≤ longestArea
 
 -- The words of each kind of row, with zeros in all unused places.
 unfoldable pub nodeWords : Node → List ℕ

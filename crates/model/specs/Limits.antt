@@ -15,6 +15,10 @@ pub record Limits : Type 0 where
 abbrev pub office : Limits
 office = record { maxTerms = 1024; maxCapacity = 2048; maxLines = 256 }
 
+-- the most bytes that an area of the office needs
+abbrev pub longestArea : ℕ
+longestArea = 1048576
+
 -- arguments of a symbol
 abbrev pub maxArity : ℕ
 maxArity = 8

@@ -15,23 +15,23 @@ bucket-low a b = omega arith
 
 -- The search of (a, b) among the first n pairs has come to a cell with the link v, and the rest of the way: that leads to the pair if
 -- it is there, and where it led to n, so would the whole way.
-pub record Sought (ls rs cells : List ℕ) (n a b cell way v : ℕ) : Type 0 where
+pub record Sought (lefts rights cells : List ℕ) (n a b cell way v : ℕ) : Type 0 where
   pub low : cell < cellsOf n
   pub is-link : getD cells cell 0 ≡ v
   pub small : v ≤ n
-  pub onward : placeOf ls rs n a b < n → Leads cells (placeOf ls rs n a b) cell way
+  pub onward : placeOf lefts rights n a b < n → Leads cells (placeOf lefts rights n a b) cell way
   pub joins : (cells′ : List ℕ) → LinksKept cells cells′ (cellsOf n) → Leads cells′ n cell way → Leads cells′ n (bucketOf a b) (wayOf a b)
 
 -- a link goes to one of the first n places
-link-small : {ls rs cells : List ℕ} {n : ℕ} → Indexed ls rs cells n → (cell v : ℕ) → cell < cellsOf n
+link-small : {lefts rights cells : List ℕ} {n : ℕ} → Indexed lefts rights cells n → (cell v : ℕ) → cell < cellsOf n
     → getD cells cell 0 ≡ v → v ≤ n
 link-small ix cell zero l e = omega arith
 link-small ix cell (suc p) l e = ix .later cell p l e .0
 
-module _ {ls rs cells : List ℕ} {n : ℕ} (ix : Indexed ls rs cells n) {a b : ℕ} where
+module _ {lefts rights cells : List ℕ} {n : ℕ} (ix : Indexed lefts rights cells n) {a b : ℕ} where
   -- it starts at the head of the pair's bucket, with the whole way
   pub sought-head : (h : ℕ) → h ≡ hashOf a b
-      → Sought ls rs cells n a b (h / 65536 % buckets) (h % 65536 + h / 268435456 * 65536) (getD cells (h / 65536 % buckets) 0)
+      → Sought lefts rights cells n a b (h / 65536 % buckets) (h % 65536 + h / 268435456 * 65536) (getD cells (h / 65536 % buckets) 0)
   unfolding bucketOf wayOf
   sought-head h e =
       let low : bucketOf a b < cellsOf n = omega (arith, bucket-low a b) in
@@ -44,17 +44,17 @@ module _ {ls rs cells : List ℕ} {n : ℕ} (ix : Indexed ls rs cells n) {a b : 
         joins = λ cells′ kept l. l;
       })
 
-  module _ {cell way v : ℕ} (s : Sought ls rs cells n a b cell way v) where
+  module _ {cell way v : ℕ} (s : Sought lefts rights cells n a b cell way v) where
     -- at a cell without a link the pair is not there
     leads-on : {p : ℕ} → v ≡ 0 → Leads cells p cell way → ⊥
     leads-on e (here q) = omega (arith, s .is-link, q)
     leads-on e (down r q l t) = omega (arith, s .is-link, q)
 
-    none-there : v ≡ 0 → placeOf ls rs n a b ≡ n
+    none-there : v ≡ 0 → placeOf lefts rights n a b ≡ n
     none-there e =
-        place-none ls rs n a b (λ i l h. leads-on e (s .onward (omega (arith, place-least ls rs n a b i l h))))
+        place-none lefts rights n a b (λ i l h. leads-on e (s .onward (omega (arith, place-least lefts rights n a b i l h))))
 
-    pub sought-none : v ≡ 0 → Searched ls rs cells n a b (record { place = n; cell = cell })
+    pub sought-none : v ≡ 0 → Searched lefts rights cells n a b (record { place = n; cell = cell })
     sought-none e =
         record {
           place = sym (none-there e);
@@ -74,10 +74,10 @@ module _ {ls rs cells : List ℕ} {n : ℕ} (ix : Indexed ls rs cells n) {a b : 
     found-at z g (here q) = omega (arith, s .is-link, q)
     found-at z g (down r q l t) = absurd (g (omega (arith, s .is-link, q)))
 
-    pub sought-found : (v ≡ 0 → ⊥) → Holds ls rs (v - 1) a b → Searched ls rs cells n a b (record { place = v - 1; cell = cell })
+    pub sought-found : (v ≡ 0 → ⊥) → Holds lefts rights (v - 1) a b → Searched lefts rights cells n a b (record { place = v - 1; cell = cell })
     sought-found z h =
         let below = sought-at z .0 in
-        let least = place-least ls rs n a b (v - 1) below h in
+        let least = place-least lefts rights n a b (v - 1) below h in
         record {
           place = found-at z (λ g. omega arith) (s .onward (omega arith));
           ends = λ q. absurd (omega arith);
@@ -90,8 +90,8 @@ module _ {ls rs cells : List ℕ} {n : ℕ} (ix : Indexed ls rs cells n) {a b : 
         let same : v - 1 ≡ r = omega (arith, s .is-link, q) in
         rw same t
 
-    pub sought-next : (v ≡ 0 → ⊥) → (Holds ls rs (v - 1) a b → ⊥)
-        → Sought ls rs cells n a b (cellBelow (v - 1) way) (way / 2) (getD cells (cellBelow (v - 1) way) 0)
+    pub sought-next : (v ≡ 0 → ⊥) → (Holds lefts rights (v - 1) a b → ⊥)
+        → Sought lefts rights cells n a b (cellBelow (v - 1) way) (way / 2) (getD cells (cellBelow (v - 1) way) 0)
     sought-next z g =
         let at = sought-at z in
         let low : cellBelow (v - 1) way < cellsOf n = omega arith in
@@ -99,6 +99,6 @@ module _ {ls rs cells : List ℕ} {n : ℕ} (ix : Indexed ls rs cells n) {a b : 
           low = low;
           is-link = refl;
           small = link-small ix _ _ low refl;
-          onward = λ h. further z (λ e. g (rw e (place-holds ls rs n a b h))) (s .onward h);
+          onward = λ h. further z (λ e. g (rw e (place-holds lefts rights n a b h))) (s .onward h);
           joins = λ cells′ kept l. s .joins cells′ kept (down (v - 1) (kept cell (v - 1) (s .low) (s .is-link ∙ omega arith)) (at .0) l);
         }

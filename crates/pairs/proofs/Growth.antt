@@ -16,8 +16,8 @@ use Rattle.pairs.proofs.Rooms.{room-kept, room-fewer}
 use Rattle.pairs.proofs.Descent.{bucket-low}
 
 -- no pairs are indexed where the heads are cleared
-pub indexed-none : {ls rs cells : List ℕ} {n : ℕ} → Room ls rs cells n → (cells₀ : List ℕ)
-    → cells ≡ replicate buckets 0 ++ drop buckets cells₀ → Indexed ls rs cells 0
+pub indexed-none : {lefts rights cells : List ℕ} {n : ℕ} → Room lefts rights cells n → (cells₀ : List ℕ)
+    → cells ≡ replicate buckets 0 ++ drop buckets cells₀ → Indexed lefts rights cells 0
 indexed-none {cells = cells} room cells₀ e =
     record {
       room = room-fewer (omega arith) room;
@@ -61,34 +61,34 @@ widened cells n room =
         rw last (getD-set-same (set cells (cellsOf n) 0) (cellsOf n + 1) 0 0 (rw length-set (omega arith)))
 
 -- One pair more, over cells in which the old links are kept: the index of n + 1 pairs, if a pair that was not there has its way.
-module _ {ls rs cells : List ℕ} {n : ℕ} (ix : Indexed ls rs cells n) (a b : ℕ) (room : Room ls rs cells (suc n)) where
+module _ {lefts rights cells : List ℕ} {n : ℕ} (ix : Indexed lefts rights cells n) (a b : ℕ) (room : Room lefts rights cells (suc n)) where
   indexed-more : (cells′ : List ℕ) → length cells′ ≡ length cells → LinksKept cells cells′ (cellsOf n)
       → ((c p : ℕ) → c < cellsOf (suc n) → getD cells′ c 0 ≡ suc p → (p < suc n) × (c < cellsOf p))
-      → (placeOf ls rs n a b ≡ n → Leads cells′ n (bucketOf a b) (wayOf a b))
-      → Indexed (set ls n a) (set rs n b) cells′ (suc n)
+      → (placeOf lefts rights n a b ≡ n → Leads cells′ n (bucketOf a b) (wayOf a b))
+      → Indexed (set lefts n a) (set rights n b) cells′ (suc n)
   indexed-more cells′ size kept later own =
       record {
-        room = room-kept room (length-set ls n a) (length-set rs n b) size;
+        room = room-kept room (length-set lefts n a) (length-set rights n b) size;
         later = later;
         leads = λ x y l. leads x y l (lt-or-le _ n) (eq-or-not x a) (eq-or-not y b);
       }
     where
-      other : (x y : ℕ) → placeOf (set ls n a) (set rs n b) (suc n) x y < suc n → n ≤ placeOf ls rs n x y → (x ≡ a → y ≡ b → ⊥) → ⊥
-      other x y l h g = omega (arith, place-other ls rs n a b (room .lefts-fit) (room .rights-fit) x y g (omega (arith, place-le ls rs n x y)))
+      other : (x y : ℕ) → placeOf (set lefts n a) (set rights n b) (suc n) x y < suc n → n ≤ placeOf lefts rights n x y → (x ≡ a → y ≡ b → ⊥) → ⊥
+      other x y l h g = omega (arith, place-other lefts rights n a b (room .lefts-fit) (room .rights-fit) x y g (omega (arith, place-le lefts rights n x y)))
 
-      leads : (x y : ℕ) → placeOf (set ls n a) (set rs n b) (suc n) x y < suc n → (placeOf ls rs n x y < n) ⊎ (n ≤ placeOf ls rs n x y)
+      leads : (x y : ℕ) → placeOf (set lefts n a) (set rights n b) (suc n) x y < suc n → (placeOf lefts rights n x y < n) ⊎ (n ≤ placeOf lefts rights n x y)
           → (x ≡ a) ⊎ (x ≡ a → ⊥) → (y ≡ b) ⊎ (y ≡ b → ⊥)
-          → Leads cells′ (placeOf (set ls n a) (set rs n b) (suc n) x y) (bucketOf x y) (wayOf x y)
+          → Leads cells′ (placeOf (set lefts n a) (set rights n b) (suc n) x y) (bucketOf x y) (wayOf x y)
       leads x y l (inl h) e f =
-          rw (place-old ls rs n a b x y h) (leads-kept kept h (omega (arith, bucket-low x y)) (ix .leads x y h))
+          rw (place-old lefts rights n a b x y h) (leads-kept kept h (omega (arith, bucket-low x y)) (ix .leads x y h))
       leads x y l (inr h) (inl e) (inl f) =
-          let top : placeOf ls rs n a b ≡ n = omega (arith, place-le ls rs n a b, rw (e, f) at h) in
-          rw (e, f, place-new ls rs n a b (room .lefts-fit) (room .rights-fit), top) (own top)
+          let top : placeOf lefts rights n a b ≡ n = omega (arith, place-le lefts rights n a b, rw (e, f) at h) in
+          rw (e, f, place-new lefts rights n a b (room .lefts-fit) (room .rights-fit), top) (own top)
       leads x y l (inr h) (inr e) f = absurd (other x y l h (λ p q. e p))
       leads x y l (inr h) (inl e) (inr f) = absurd (other x y l h (λ p q. f q))
 
 -- what a push leaves: the pair was there, or it was not and the cell at which the search ended gets the link to its place
-module _ {ls rs cells : List ℕ} {n : ℕ} (ix : Indexed ls rs cells n) (room : Room ls rs cells (suc n)) {a b : ℕ} {r : Found} (found : Searched ls rs cells n a b r) where
+module _ {lefts rights cells : List ℕ} {n : ℕ} (ix : Indexed lefts rights cells n) (room : Room lefts rights cells (suc n)) {a b : ℕ} {r : Found} (found : Searched lefts rights cells n a b r) where
   wide : Widened cells (wider cells n) n
   wide = widened cells n (room .cells-fit)
 
@@ -108,7 +108,7 @@ module _ {ls rs cells : List ℕ} {n : ℕ} (ix : Indexed ls rs cells n) (room :
       at (inr h) = absurd (omega (arith, wide .bare c h l))
 
   pub pushed-there : (r .place ≡ n → ⊥)
-      → Pushed ls rs (set ls n a) (set rs n b) (set (set cells (cellsOf n) 0) (cellsOf n + 1) 0) n a b (r .place)
+      → Pushed lefts rights (set lefts n a) (set rights n b) (set (set cells (cellsOf n) 0) (cellsOf n + 1) 0) n a b (r .place)
   pushed-there g =
       record {
         left = refl;
@@ -146,7 +146,7 @@ module _ {ls rs cells : List ℕ} {n : ℕ} (ix : Indexed ls rs cells n) (room :
             (omega arith, omega (arith, ends .low))
         at (inr q) = let old = later-wide c p l (sym (put-other c q) ∙ e) in (omega arith, old .1)
 
-    pub pushed-new : Pushed ls rs (set ls n a) (set rs n b) (set (set (set cells (cellsOf n) 0) (cellsOf n + 1) 0) (r .cell) (n + 1)) n a b (r .place)
+    pub pushed-new : Pushed lefts rights (set lefts n a) (set rights n b) (set (set (set cells (cellsOf n) 0) (cellsOf n + 1) 0) (r .cell) (n + 1)) n a b (r .place)
     pushed-new =
         record {
           left = refl;

@@ -13,10 +13,10 @@ pub record Pair : Type 0 where
 
 -- The pair at place i of two lists, and the first n pairs, place by place.
 unfoldable pub pairAt : List ℕ → List ℕ → ℕ → Pair
-pairAt ls rs i = record { left = getD ls i 0; right = getD rs i 0 }
+pairAt lefts rights i = record { left = getD lefts i 0; right = getD rights i 0 }
 
 unfoldable pub pairsOf : List ℕ → List ℕ → ℕ → List Pair
-pairsOf ls rs n = map (pairAt ls rs) (from 0 n)
+pairsOf lefts rights n = map (pairAt lefts rights) (from 0 n)
 
 -- Whether a pair is (a, b).
 unfoldable pub isPair : ℕ → ℕ → Pair → Bool
@@ -24,4 +24,4 @@ isPair a b p = eqb (p .left) a && eqb (p .right) b
 
 -- The first place of (a, b) among the first n pairs, or n where none of them is (a, b).
 unfoldable pub placeOf : List ℕ → List ℕ → ℕ → ℕ → ℕ → ℕ
-placeOf ls rs n a b = first (isPair a b) (pairsOf ls rs n)
+placeOf lefts rights n a b = first (isPair a b) (pairsOf lefts rights n)

@@ -9,11 +9,11 @@ use Rattle.model.specs.Report.{numberBytes}
 
 -- No word is above the limit of a number.
 unfoldable pub smallWords : List ℕ → Type 0
-smallWords rows = T (all (λ w. leb w maxNumber) rows)
+smallWords words = T (all (λ w. leb w maxNumber) words)
 
 -- The bytes of n words from word `start` on, each as a number.
 unfoldable pub runBytes : List ℕ → ℕ → ℕ → List ℕ
-runBytes rows start n = numberBytes (take n (drop start rows))
+runBytes words start n = numberBytes (take n (drop start words))
 
 -- The list with the bytes from place `at` on, and everything else as it was.
 unfoldable pub overAt : List ℕ → ℕ → List ℕ → List ℕ

@@ -1,5 +1,5 @@
 // The session program (docs/SPEC.md, "Sessions"): it reads a session from standard input, and prints a line for the opening and
-// for each step. The opening is a function of crate session, a step with the text of its line one of crate turns; here they are joined to
+// for each step. The opening is a function of crate session, a step with the text of its line one of crate printing; here they are joined to
 // the input and the output.
 
 ghost use mathlib.Core.Path.{_≡_};
@@ -7,25 +7,25 @@ ghost use mathlib.Core.Bool.{cond};
 ghost use Prim.Native.Nat.{_≤_};
 ghost use lib.ListN.{length};
 ghost use Rattle.theory.specs.Lengths.{longestSessionReport};
-ghost use Rattle.text.specs.Text.{lineMost};
+ghost use Rattle.session.specs.text.Text.{lineMost};
 use libc::STDIN_FILENO;
 use libc::STDOUT_FILENO;
-use session::Begun;
-use turns::Shown;
+use printing::turns::Printout;
+use session::steps::Begun;
 
 // The bytes of an area of the session's capacity, of the longest report, and of the longest line of text.
-const AREA: usize = layout::WORD_BYTES
-    * (layout::HEADER_WORDS
-        + (layout::TERM_WORDS + 1) * layout::OFFICE_TERMS
-        + layout::OFFICE_LINES
-        + layout::ENTRY_WORDS * (session::CAPACITY as usize));
+const AREA: usize = layout::limits::WORD_BYTES
+    * (layout::limits::HEADER_WORDS
+        + (layout::limits::TERM_WORDS + 1) * layout::limits::OFFICE_TERMS
+        + layout::limits::OFFICE_LINES
+        + layout::limits::ENTRY_WORDS * (session::steps::CAPACITY as usize));
 
 const REPORT: usize = 24068;
 
 const LINE: usize = 33 + 6 * REPORT;
 
 // Prints the line that a turn shows; false where it cannot be printed.
-fn print(t: Shown, report: &[u8], text: &[u8]) -> bool
+fn print(t: Printout, report: &[u8], text: &[u8]) -> bool
     requires { ⌜ t .size ≤ length (cond (t .report) (now report) (now text)) ⌝ }
 {
     let size = t.size;
@@ -50,7 +50,7 @@ fn steps(
     let mut at = first;
     let mut kept: usize = 0;
     while at < input.len() {
-        let t = turns::turn(input, at, area, out, report, kept, text);
+        let t = printing::turns::turn(input, at, area, out, report, kept, text);
         if !print(t, report, text) {
             return;
         }
@@ -63,8 +63,8 @@ fn steps(
 fn run(input: &[u8]) {
     let mut area = [0u8; AREA];
     let mut text = [0u8; LINE];
-    let begun = session::open(input, &mut area);
-    let n = lines::opening(begun, &mut text);
+    let begun = session::steps::open(input, &mut area);
+    let n = printing::lines::opening(begun, &mut text);
     if !io::write_all(STDOUT_FILENO, &text[..n]) {
         return;
     }
@@ -78,7 +78,7 @@ fn run(input: &[u8]) {
 
 fn main() {
     // one byte more than the longest session shows that a session is too long
-    let mut input = [0u8; session::LONGEST + 1];
+    let mut input = [0u8; session::steps::LONGEST + 1];
     let n = io::read_full(STDIN_FILENO, &mut input);
     run(&input[..n]);
 }

@@ -1,4 +1,4 @@
--- `fit::fit_area_length` meets its contract, which is that of `opening::area_length`. Assumes nothing.
+-- `fit::fit_area_length` meets its contract, which is that of `office::opening::area_length`. Assumes nothing.
 use borrow.Author.Needs.{needs}
 use Rattle.fit.proofs.fit_area_length.Statement.{statement}
 use Rattle.fit.proofs.fit_area_length.Tie as tie

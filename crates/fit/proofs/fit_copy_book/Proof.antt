@@ -1,4 +1,4 @@
--- `fit::fit_copy_book` meets its contract, which is that of `copying::copy_book`. Assumes nothing.
+-- `fit::fit_copy_book` meets its contract, which is that of `office::copy::copy_book`. Assumes nothing.
 use borrow.Author.Needs.{needs}
 use Rattle.fit.proofs.fit_copy_book.Statement.{statement}
 use Rattle.fit.proofs.fit_copy_book.Tie as tie

@@ -1,4 +1,4 @@
--- `fit::fit_entry` meets its contract, which is that of `viewing::entry`. Assumes nothing.
+-- `fit::fit_entry` meets its contract, which is that of `office::entry::entry`. Assumes nothing.
 use borrow.Author.Needs.{needs}
 use Rattle.fit.proofs.fit_entry.Statement.{statement}
 use Rattle.fit.proofs.fit_entry.Tie as tie

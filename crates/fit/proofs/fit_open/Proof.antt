@@ -1,4 +1,4 @@
--- `fit::fit_open` meets its contract, which is that of `opening::open`. Assumes nothing.
+-- `fit::fit_open` meets its contract, which is that of `office::opening::open`. Assumes nothing.
 use borrow.Author.Needs.{needs}
 use Rattle.fit.proofs.fit_open.Statement.{statement}
 use Rattle.fit.proofs.fit_open.Tie as tie

@@ -1,4 +1,4 @@
--- `fit::fit_report` meets its contract, which is that of `reporting::report`. Assumes nothing.
+-- `fit::fit_report` meets its contract, which is that of `office::reports::report`. Assumes nothing.
 use borrow.Author.Needs.{needs}
 use Rattle.fit.proofs.fit_report.Statement.{statement}
 use Rattle.fit.proofs.fit_report.Tie as tie

@@ -1,4 +1,4 @@
--- `fit::fit_write` meets its contract, which is that of `writing::write`. Assumes nothing.
+-- `fit::fit_write` meets its contract, which is that of `office::books::write`. Assumes nothing.
 use borrow.Author.Needs.{needs}
 use Rattle.fit.proofs.fit_write.Statement.{statement}
 use Rattle.fit.proofs.fit_write.Tie as tie

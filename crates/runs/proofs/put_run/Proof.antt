@@ -9,16 +9,16 @@ use Rattle.runs.proofs.put_run.Statement.{statement}
 use Rattle.runs.proofs.put_run.Tie as tie
 
 abbrev Inv-loop : tie.InvT-loop
-Inv-loop rows start count out₀ at next₀ i₀ out next i =
-    (i ≤ count) × Laid out₀ at (runBytes rows start i) out next
+Inv-loop words start count out₀ at next₀ i₀ out next i =
+    (i ≤ count) × Laid out₀ at (runBytes words start i) out next
 
 abbrev μ-loop : tie.MeasureT-loop
-μ-loop rows start count out₀ at next₀ i₀ out next i = count - i
+μ-loop words start count out₀ at next₀ i₀ out next i = count - i
 
 loop-holds : tie.Need-loop-holds Inv-loop μ-loop
 loop-holds c =
     let start = c .before .before in
-    (omega arith, rw (run-none (start .args .rows .now) (start .args .start)) (laid-none _ _))
+    (omega arith, rw (run-none (start .args .words .now) (start .args .start)) (laid-none _ _))
 
 add-from : tie.Need-add-from Inv-loop μ-loop
 add-from c = omega arith
@@ -33,10 +33,10 @@ put-number-requires : tie.Need-put-number-requires Inv-loop μ-loop
 put-number-requires c κs =
     let start = c .before .before .before .before .before .before in
     let loop = c .before .before .before .loop in
-    let more = length-run-more (start .args .rows .now) (start .args .start) (loop .i) (omega arith) in
-    let grows = run-grows (start .args .rows .now) (start .args .start) (loop .i + 1) (start .args .count) (omega arith) in
+    let more = length-run-more (start .args .words .now) (start .args .start) (loop .i) (omega arith) in
+    let grows = run-grows (start .args .words .now) (start .args .start) (loop .i + 1) (start .args .count) (omega arith) in
     let same = laid-length (start .args .out .now) (start .args .at) _ _ _ (omega arith) (loop .inv .1) in
-    (small-run (start .args .rows .now) (start .args .start) (start .args .count) (loop .i) (start .pre .1) (omega arith) (omega arith), omega arith)
+    (small-run (start .args .words .now) (start .args .start) (start .args .count) (loop .i) (start .pre .1) (omega arith) (omega arith), omega arith)
 
 add-i : tie.Need-add-i Inv-loop μ-loop
 add-i c = omega arith
@@ -49,9 +49,9 @@ loop-again c =
     let start = c .before .before .before .before .before .before .before .before .before in
     let loop = c .before .before .before .before .before .before .loop in
     let put = c .before .before .put-number in
-    let grows = run-grows (start .args .rows .now) (start .args .start) (loop .i) (start .args .count) (omega arith) in (
+    let grows = run-grows (start .args .words .now) (start .args .start) (loop .i) (start .args .count) (omega arith) in (
       omega arith,
-      rw (run-more (start .args .rows .now) (start .args .start) (loop .i) (omega arith))
+      rw (run-more (start .args .words .now) (start .args .start) (loop .i) (omega arith))
           (laid-more (start .args .out .now) (start .args .at) _ _ _ (omega arith) (loop .inv .1) _ _ _ (put .ensures)),
     )
 
@@ -59,7 +59,7 @@ same-length : tie.Need-same-length Inv-loop μ-loop
 same-length c =
     let start = c .before .before .before .before in
     let loop = c .before .loop in
-    let grows = run-grows (start .args .rows .now) (start .args .start) (loop .i) (start .args .count) (omega arith) in
+    let grows = run-grows (start .args .words .now) (start .args .start) (loop .i) (start .args .count) (omega arith) in
     laid-length (start .args .out .now) (start .args .at) _ _ _ (omega arith) (loop .inv .1)
 
 returns : tie.Need-returns Inv-loop μ-loop
@@ -67,7 +67,7 @@ returns c =
     let start = c .before .before .before .before in
     let loop = c .before .loop in
     let done : loop .i ≡ start .args .count = omega arith in
-    subst (λ (i : ℕ). Laid (start .args .out .now) (start .args .at) (runBytes (start .args .rows .now) (start .args .start) i) (loop .out) (loop .next))
+    subst (λ (i : ℕ). Laid (start .args .out .now) (start .args .at) (runBytes (start .args .words .now) (start .args .start) i) (loop .out) (loop .next))
     done (loop .inv .1)
 
 pub put-run-spec : {M : Type 1} → statement M

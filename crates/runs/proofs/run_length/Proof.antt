@@ -10,10 +10,10 @@ use Rattle.runs.proofs.run_length.Statement.{statement}
 use Rattle.runs.proofs.run_length.Tie as tie
 
 abbrev Inv-loop : tie.InvT-loop
-Inv-loop rows start count sum₀ i₀ sum i = (i ≤ count) × (sum ≡ length (runBytes rows start i))
+Inv-loop words start count sum₀ i₀ sum i = (i ≤ count) × (sum ≡ length (runBytes words start i))
 
 abbrev μ-loop : tie.MeasureT-loop
-μ-loop rows start count sum₀ i₀ sum i = count - i
+μ-loop words start count sum₀ i₀ sum i = count - i
 
 loop-holds : tie.Need-loop-holds Inv-loop μ-loop
 loop-holds c = (omega arith, ap length (sym (run-none _ _)))
@@ -34,7 +34,7 @@ add-sum : tie.Need-add-sum Inv-loop μ-loop
 add-sum c =
     let start = c .before .before .before .before .before in
     let loop = c .before .before .before .loop in
-    omega (arith, run-bound (start .args .rows .now) (start .args .start) (loop .i), length-write (getD (start .args .rows .now) (start .args .start + loop .i) 0))
+    omega (arith, run-bound (start .args .words .now) (start .args .start) (loop .i), length-write (getD (start .args .words .now) (start .args .start + loop .i) 0))
 
 add-i : tie.Need-add-i Inv-loop μ-loop
 add-i c = omega arith
@@ -46,13 +46,13 @@ loop-again : tie.Need-loop-again Inv-loop μ-loop
 loop-again c =
     let start = c .before .before .before .before .before in
     let loop = c .before .before .before .loop in
-    (omega arith, omega (arith, length-run-more (start .args .rows .now) (start .args .start) (loop .i) (omega arith)))
+    (omega arith, omega (arith, length-run-more (start .args .words .now) (start .args .start) (loop .i) (omega arith)))
 
 returns : tie.Need-returns Inv-loop μ-loop
 returns c =
     let start = c .before .before .before in
     let done : c .before .loop .i ≡ start .args .count = omega arith in
-    c .before .loop .inv .1 ∙ ap (λ (i : ℕ). length (runBytes (start .args .rows .now) (start .args .start) i)) done
+    c .before .loop .inv .1 ∙ ap (λ (i : ℕ). length (runBytes (start .args .words .now) (start .args .start) i)) done
 
 pub run-length-spec : {M : Type 1} → statement M
 run-length-spec =

@@ -3,7 +3,7 @@
 use mathlib.Core.Path.{sym}
 use borrow.Author.Needs.{needs}
 use lib.Seq.{length-take-le}
-use Rattle.lines.proofs.Printing.{opening-within}
+use Rattle.printing.proofs.lines.Printing.{opening-within}
 use Rattle.sessions.proofs.run.Statement.{statement}
 use Rattle.sessions.proofs.run.Tie as tie
 

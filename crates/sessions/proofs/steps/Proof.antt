@@ -7,15 +7,15 @@ use native.Mathlib.Omega.{arith}
 use borrow.Author.Needs.{needs}
 use denote.Ref.{now}
 use lib.ListN.{length}
-use Rattle.session.specs.Steps.{stepAt, nextOr}
-use Rattle.whole.proofs.Progress.{steps-go-on, goes-behind}
-use Rattle.turns.specs.Turns.{Kept}
+use Rattle.session.specs.steps.Effects.{stepAt, nextOr}
+use Rattle.printing.proofs.whole.Progress.{steps-go-on, goes-behind}
+use Rattle.printing.specs.turns.Turns.{KeptReport}
 use Rattle.sessions.proofs.steps.Statement.{statement}
 use Rattle.sessions.proofs.steps.Tie as tie
 
 abbrev Inv-loop : tie.InvT-loop
 Inv-loop input area₀ first out₀ report₀ text₀ at₀ kept₀ area out report text at kept =
-    (length area ≡ length area₀) × (length out ≡ length out₀) × (length report ≡ length report₀) × (length text ≡ length text₀) × Kept area out report kept
+    (length area ≡ length area₀) × (length out ≡ length out₀) × (length report ≡ length report₀) × (length text ≡ length text₀) × KeptReport area out report kept
 
 abbrev μ-loop : tie.MeasureT-loop
 μ-loop input area₀ first out₀ report₀ text₀ at₀ kept₀ area out report text at kept = length input - at

@@ -1,4 +1,4 @@
--- `layout::offsets::needed_length` meets its contract: the length is a sum of multiples. Assumes nothing.
+-- `offsets::needed_length` meets its contract: the length is a sum of multiples. Assumes nothing.
 use native.Mathlib.Omega.{arith}
 use Rattle.model.specs.Area.{areaLength}
 use borrow.Author.Needs.{needs}

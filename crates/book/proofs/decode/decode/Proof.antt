@@ -1,0 +1,103 @@
+-- `decode::decode` meets its contract: the number of terms is within the limit, the terms follow, and no byte is left. Assumes nothing.
+use mathlib.Core.Path.{_≡_, ap, _∙_}
+use Prim.Native.Nat.{_+_, _*_, _≤_}
+use native.Mathlib.Omega.{arith}
+use borrow.Author.Needs.{needs}
+use denote.Ref.{now}
+use lib.ListN.{length, drop}
+use Rattle.model.specs.Area.{termWords}
+use Rattle.model.specs.BookBytes.{parsed}
+use Rattle.book.specs.reader.Below.{partOf, parseBelow}
+use Rattle.book.proofs.reader.Below.{below-small}
+use Rattle.book.proofs.decode.Whole.{zeros-length, refused-count, refused-terms, refused-end, whole-book}
+use Rattle.book.proofs.decode.decode.Statement.{statement}
+use Rattle.book.proofs.decode.decode.Tie as tie
+
+-- the number of terms that was read, and its limit
+count-read : (c : tie.After-value) →
+    let a = c .before .before .before .before .before .before .args in
+    let bytes = now (a .bytes) in
+    parseBelow (a .lim .terms + 1) 4 bytes ≡ parsed (c .value .given .0 .0) (drop (c .value .given .0 .1 .0) bytes)
+count-read c = c .before .before .read-below .ensures ∙ ap (partOf (now (c .before .before .before .before .before .before .args .bytes))) (c .value .given .1)
+
+count-small : (c : tie.After-value) → c .value .given .0 .0 ≤ c .before .before .before .before .before .before .args .lim .terms
+count-small c = omega (arith, below-small _ 4 _ _ _ (count-read c))
+
+-- the rows have as many words as the terms of the limit take
+long : (c : tie.After-value) → let a = c .before .before .before .before .before .before .args in length (now (a .rows)) ≡ termWords * a .lim .terms
+long c = zeros-length _ (c .before .before .before .before .before .before .pre .1)
+
+cast-read-below : tie.Need-cast-read-below
+cast-read-below c = search needs
+
+add-read-below : tie.Need-add-read-below
+add-read-below c = search needs
+
+read-below-requires : tie.Need-read-below-requires
+read-below-requires c κs = search needs
+
+enum-known-n : tie.Need-enum-known-n
+enum-known-n c = search needs
+
+enum-known-value : tie.Need-enum-known-value
+enum-known-value c = search needs
+
+read-terms-requires : tie.Need-read-terms-requires
+read-terms-requires c κs =
+    let known = c .before .before in
+    (omega (arith, count-small known, long known), rw (long known) (known .before .before .before .before .before .before .pre .1))
+
+enum-known-n-2 : tie.Need-enum-known-n-2
+enum-known-n-2 c = search needs
+
+enum-known-end : tie.Need-enum-known-end
+enum-known-end c = search needs
+
+returns : tie.Need-returns
+returns c =
+    let bytes = now (c .before .before .before .before .before .before .before .args .bytes) in
+    refused-count _ _ _ _ _ (c .before .before .before .read-below .ensures ∙ ap (partOf bytes) (c .before .n .given .1))
+
+same-length : tie.Need-same-length
+same-length c = search needs
+
+returns-2 : tie.Need-returns-2
+returns-2 c =
+    let read = c .before .before .before .before .before in
+    let known = read .before .before .before in
+    refused-terms _ _ _ _ _ (known .value .given .0 .1 .0) (count-read known) (long known) (read .read-terms .result) _ (read .read-terms .ensures) (c .before .n2 .given .1)
+
+same-length-2 : tie.Need-same-length-2
+same-length-2 c = search needs
+
+returns-3 : tie.Need-returns-3
+returns-3 c =
+    let read = c .before .before .before .before .before .before in
+    let known = read .before .before .before in
+    refused-end _ _ _ _ _ (known .value .given .0 .1 .0) (count-read known) (long known) (read .read-terms .result) _ (read .read-terms .ensures)
+    (c .before .before .end .given .1) (c .if1 .taken)
+
+same-length-3 : tie.Need-same-length-3
+same-length-3 c = search needs
+
+returns-4 : tie.Need-returns-4
+returns-4 c =
+    let read = c .before .before .before .before .before .before in
+    let known = read .before .before .before in
+    whole-book _ _ _ _ _ (known .value .given .0 .1 .0) (count-read known) (long known) (read .read-terms .result) _ (read .read-terms .ensures)
+    (c .before .before .end .given .1) (c .if1 .left)
+
+pub decode-spec : {M : Type 1} → statement M
+decode-spec =
+    tie.close
+    (tie.spec
+    cast-read-below add-read-below read-below-requires
+    enum-known-n
+    enum-known-value
+    read-terms-requires
+    enum-known-n-2
+    enum-known-end
+    returns
+    same-length returns-2
+    same-length-2 returns-3
+    same-length-3 returns-4)

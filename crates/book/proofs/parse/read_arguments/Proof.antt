@@ -1,0 +1,99 @@
+-- `parse::read_arguments` meets its contract: the loop's invariant says what holds after `i` arguments, and the measure
+-- is the arguments that are left. Assumes nothing.
+use mathlib.Core.Path.{_≡_, refl, ap, _∙_}
+use Prim.Native.Nat.{_-_}
+use native.Mathlib.Omega.{arith}
+use borrow.Author.Needs.{needs}
+use denote.Ref.{now}
+use lib.ListN.{length, length-set}
+use Rattle.book.specs.reader.Below.{partOf}
+use Rattle.book.proofs.decode.Arguments.{Read, read-none, read-more, read-refused, read-all}
+use Rattle.book.proofs.parse.read_arguments.Statement.{statement}
+use Rattle.book.proofs.parse.read_arguments.Tie as tie
+
+abbrev Inv-loop : tie.InvT-loop
+Inv-loop bytes at t count rows₀ next₀ i₀ first rows next i = (length rows ≡ length rows₀) × Read bytes at t count rows₀ rows next i
+
+abbrev μ-loop : tie.MeasureT-loop
+μ-loop bytes at t count rows₀ next₀ i₀ first rows next i = count - i
+
+mul-first : tie.Need-mul-first Inv-loop μ-loop
+mul-first c = search needs
+
+add-first : tie.Need-add-first Inv-loop μ-loop
+add-first c = search needs
+
+loop-holds : tie.Need-loop-holds Inv-loop μ-loop
+loop-holds c = (refl, read-none _ _ _ _ _)
+
+read-below-requires : tie.Need-read-below-requires Inv-loop μ-loop
+read-below-requires c κs = search needs
+
+enum-known-value : tie.Need-enum-known-value Inv-loop μ-loop
+enum-known-value c = search needs
+
+cast-rows : tie.Need-cast-rows Inv-loop μ-loop
+cast-rows c = search needs
+
+add-rows : tie.Need-add-rows Inv-loop μ-loop
+add-rows c = search needs
+
+mul-rows : tie.Need-mul-rows Inv-loop μ-loop
+mul-rows c = search needs
+
+slice-write-rows : tie.Need-slice-write-rows Inv-loop μ-loop
+slice-write-rows c = search needs
+
+enum-known-n : tie.Need-enum-known-n Inv-loop μ-loop
+enum-known-n c = search needs
+
+same-length : tie.Need-same-length Inv-loop μ-loop
+same-length c = search needs
+
+returns : tie.Need-returns Inv-loop μ-loop
+returns c =
+    let bytes = now (c .before .before .before .before .before .before .before .before .args .bytes) in
+    read-refused _ _ _ _ _ _ _ _ (c .before .before .before .before .before .loop .inv .1) _ (c .before .before .before .before .loop-test .taken)
+    (c .before .before .before .read-below .ensures ∙ ap (partOf bytes) (c .before .n .given .1))
+
+add-i : tie.Need-add-i Inv-loop μ-loop
+add-i c = search needs
+
+loop-less : tie.Need-loop-less Inv-loop μ-loop
+loop-less c = search needs
+
+loop-again : tie.Need-loop-again Inv-loop μ-loop
+loop-again c =
+    let bytes = now (c .before .before .before .before .before .before .before .before .args .bytes) in (
+      simp length-set (omega arith),
+      read-more _ _ _ _ _ _ _ _ (c .before .before .before .before .before .loop .inv .1) _ _ (c .before .before .before .before .loop-test .taken)
+          (c .before .before .before .read-below .ensures ∙ ap (partOf bytes) (c .before .value .given .1)),
+    )
+
+same-length-2 : tie.Need-same-length-2 Inv-loop μ-loop
+same-length-2 c = search needs
+
+returns-2 : tie.Need-returns-2 Inv-loop μ-loop
+returns-2 c = read-all _ _ _ _ _ _ _ _ (c .before .loop .inv .1) (c .loop-test .left)
+
+pub read-arguments-spec : {M : Type 1} → statement M
+read-arguments-spec =
+    tie.close
+    (tie.spec
+    Inv-loop
+    μ-loop
+    mul-first
+    add-first
+    loop-holds
+    read-below-requires
+    enum-known-value
+    cast-rows
+    add-rows
+    mul-rows
+    slice-write-rows
+    enum-known-n
+    same-length returns
+    add-i
+    loop-less
+    loop-again
+    same-length-2 returns-2)

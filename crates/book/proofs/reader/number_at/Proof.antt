@@ -1,0 +1,54 @@
+-- `reader::number_at` meets its contract: what the reader of numbers answers is the model's outcome, and the test
+-- compares with the limit. Assumes nothing.
+use borrow.Author.Needs.{needs}
+use denote.Ref.{now}
+use Rattle.book.proofs.reader.Below.{number-answered, below-held, below-broken, below-refused}
+use Rattle.book.proofs.reader.number_at.Statement.{statement}
+use Rattle.book.proofs.reader.number_at.Tie as tie
+
+read-requires : tie.Need-read-requires
+read-requires c κs = search needs
+
+enum-known-value : tie.Need-enum-known-value
+enum-known-value c = search needs
+
+enum-told : tie.Need-enum-told
+enum-told c = search needs
+
+enum-told-2 : tie.Need-enum-told-2
+enum-told-2 c = search needs
+
+returns : tie.Need-returns
+returns c =
+    let known = c .before .before in
+    let a = known .before .before .before .before .args in
+    below-held _ _ _ _ _ (number-answered (now (a .bytes)) (a .at) (known .before .before .read .ensures .0) (known .value .given .1)) (c .if1 .taken)
+
+returns-2 : tie.Need-returns-2
+returns-2 c =
+    let known = c .before .before in
+    let a = known .before .before .before .before .args in
+    below-broken _ _ _ _ _ (number-answered (now (a .bytes)) (a .at) (known .before .before .read .ensures .0) (known .value .given .1)) (c .if1 .left)
+
+returns-3 : tie.Need-returns-3
+returns-3 c =
+    let a = c .before .before .before .before .args in
+    below-refused _ _ _ _ (number-answered (now (a .bytes)) (a .at) (c .before .before .read .ensures .0) (c .enum-told .given .1))
+
+returns-4 : tie.Need-returns-4
+returns-4 c =
+    let a = c .before .before .before .before .args in
+    below-refused _ _ _ _ (number-answered (now (a .bytes)) (a .at) (c .before .before .read .ensures .0) (c .enum-told2 .given .1))
+
+pub number-at-spec : {M : Type 1} → statement M
+number-at-spec =
+    tie.close
+    (tie.spec
+    read-requires
+    enum-known-value
+    enum-told
+    enum-told-2
+    returns
+    returns-2
+    returns-3
+    returns-4)

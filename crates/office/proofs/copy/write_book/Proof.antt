@@ -1,0 +1,25 @@
+-- `copy::write_book` meets its contract: an output that is too short, or one that the encoder has written to. Assumes nothing.
+use borrow.Author.Needs.{needs}
+use Rattle.runs.proofs.Emitted.{emit-short, emit-whole}
+use Rattle.office.proofs.copy.write_book.Statement.{statement}
+use Rattle.office.proofs.copy.write_book.Tie as tie
+
+returns : tie.Need-returns
+returns c = emit-short _ _ _ (rw (c .before .encoded-length .ensures) at (c .if1 .taken))
+
+returns-2 : tie.Need-returns-2
+returns-2 c =
+    let room = c .before .before .before .before in
+    let e = c .before .before .encode .ensures in
+    emit-whole _ _ _ (rw (room .before .encoded-length .ensures) at (room .if1 .left)) _ _ (e .0) (e .1)
+
+pub write-book-spec : {M : Type 1} → statement M
+write-book-spec =
+    tie.close
+    (tie.spec
+    (λ c κs. search needs)
+    returns
+    (λ c κs. search needs)
+    (λ c. search needs)
+    (λ c. search needs)
+    returns-2)

@@ -1,0 +1,51 @@
+-- The step that a session's input asks for at a position (document 01, "Sessions"). Definitions, and a statement of what is proved in
+-- proofs/.
+use mathlib.Core.List.{List}
+use mathlib.Core.Bool.{cond}
+use Prim.Native.Nat.{ℕ, zero, suc, _<_, _≤_}
+use lib.ListN.{length}
+use lib.Dec.{ltb}
+use Rattle.leb128.specs.Number.{maxGroups, maxNumber}
+use Rattle.leb128.specs.Answer.{readAt}
+use Rattle.leb128.specs.declared.Decoded.{Decoded}
+use Rattle.leb128.specs.declared.Decoded.the-variants.{Number, Cut, Invalid}
+use Rattle.step.specs.declared.answer.Step.the-variants.{Add, Bind}
+use Rattle.session.specs.declared.command.Command.{Command}
+use Rattle.session.specs.declared.command.Command.the-variants.{Ended, Stopped, Take, Report}
+
+-- What follows a number, with the position after it; where there is none, its refusal stops the session.
+unfoldable pub orStopped : Decoded → (ℕ → ℕ → Command) → Command
+orStopped (Number n next) then = then n next
+orStopped Cut then = Stopped 1
+orStopped Invalid then = Stopped 2
+
+module _ (input : List ℕ) where
+  abbrev pub withNumber : ℕ → (ℕ → ℕ → Command) → Command
+  withNumber at then = orStopped (readAt maxGroups maxNumber input at) then
+
+  -- what follows two numbers
+  unfoldable pub withTwo : ℕ → (ℕ → ℕ → ℕ → Command) → Command
+  withTwo at then = withNumber at (λ m at′. withNumber at′ (then m))
+
+  -- A step by its number: 1 l r adds a line, 2 v t fixes a choice, 3 reports; any other is 8 and stops the session.
+  unfoldable pub byNumber : ℕ → ℕ → Command
+  byNumber zero at = Stopped 8
+  byNumber (suc zero) at = withTwo at (λ l r next. Take (Add l r) next)
+  byNumber (suc (suc zero)) at = withTwo at (λ v t next. Take (Bind v t) next)
+  byNumber (suc (suc (suc zero))) at = Report at
+  byNumber (suc (suc (suc (suc n)))) at = Stopped 8
+
+  -- The step at a position; where the input has ended there is none.
+  unfoldable pub commandAt : ℕ → Command
+  commandAt at = cond (ltb at (length input)) (withNumber at byNumber) Ended
+
+-- The position behind a step, if it has one, lies behind the position p and within n bytes.
+abbrev pub Behind : ℕ → ℕ → Command → Type 0
+Behind p n Ended = Unit {0}
+Behind p n (Stopped k) = Unit {0}
+Behind p n (Take step next) = (p < next) × (next ≤ n)
+Behind p n (Report next) = (p < next) × (next ≤ n)
+
+-- STATEMENT. Every step takes at least a byte.
+abbrev pub CommandsGoOn : Type 0
+CommandsGoOn = (input : List ℕ) (at : ℕ) → Behind at (length input) (commandAt input at)

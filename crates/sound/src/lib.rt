@@ -1,1 +1,0 @@
-// The test of a whole area (specs/Sound.antt).

@@ -1,0 +1,1 @@
+// The test of a whole area (specs/sound/Sound.antt).

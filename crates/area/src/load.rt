@@ -12,7 +12,7 @@ use layout::header::Header;
 use layout::limits::Limits;
 
 // Whether the header's numbers lie in their ranges and the area has the length that its capacity needs.
-pub fn header_ok(area: &[u8], lim: Limits) -> bool
+pub fn header_ok(lim: Limits, area: &[u8]) -> bool
     requires { ⌜ Modest (limitsOf lim) ⌝ }
     ensures { λ r. ⌜ r ≡ headerOk (limitsOf lim) (now (area .entry)) ⌝ }
 {
@@ -41,8 +41,8 @@ pub fn header_ok(area: &[u8], lim: Limits) -> bool
 
 // Loads the rows of an area whose header is in order.
 pub fn load(
-    area: &[u8],
     lim: Limits,
+    area: &[u8],
     rows: &mut [u32],
     bindings: &mut [u32],
     lines: &mut [u32],

@@ -14,8 +14,8 @@ ghost use Rattle.area.specs.save.Opened.{openedWords};
 
 // Writes the needed length of an area; what lies beyond it stays.
 pub fn store(
-    area: &mut [u8],
     lim: layout::limits::Limits,
+    area: &mut [u8],
     header: layout::header::Header,
     rows: &[u32],
     bindings: &[u32],
@@ -36,8 +36,8 @@ pub fn store(
 
 // Writes an area just opened: the header, the term rows, and zeros up to the needed length.
 pub fn opened(
-    area: &mut [u8],
     lim: layout::limits::Limits,
+    area: &mut [u8],
     capacity: u32,
     needed: usize,
     rows: &[u32],

@@ -16,8 +16,8 @@ use layout::limits::Limits;
 // Whether an area of any length and any bytes is sound; then the slices hold the words of its state, those of the entries at the
 // front of theirs, the list of its terms, what each stands for and its name. `lefts`, `rights` and `cells` are scratch.
 pub fn sound(
-    area: &[u8],
     lim: Limits,
+    area: &[u8],
     rows: &mut [u32],
     bindings: &mut [u32],
     list: &mut [u32],
@@ -37,13 +37,13 @@ pub fn sound(
         (held (headerOf (now (area .entry))) (now (rows .exit)) (now (bindings .exit)) (now (lines .exit)) (take (entryRowWords * word (now (area .entry)) 0) (now (entries .exit))))
         (now (list .exit)) (now (roots .exit)) (now (names .exit))) ⌝ }
 {
-    if !crate::load::header_ok(area, lim) {
+    if !crate::load::header_ok(lim, area) {
         return false;
     }
     let h = layout::header::load_header(area);
     let end = layout::limits::ENTRY_WORDS * (h.capacity as usize);
     let table = &mut entries[..end];
-    crate::load::load(area, lim, rows, bindings, lines, table);
+    crate::load::load(lim, area, rows, bindings, lines, table);
     if !crate::load::rows_ok(h, rows, bindings, lines, table) {
         return false;
     }

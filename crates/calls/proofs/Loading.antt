@@ -25,7 +25,7 @@ lent-kept l i o n p q c =
       for-entries = room-kept (l .for-entries) p q c;
     }
 
-module _ {lim : Limits} {area rows bindings lines list roots names : List ℕ} {h : Header} (entries : List ℕ) (head : HeaderOf area h)
+module _ {lim : Limits} {area rows bindings list roots names lines : List ℕ} {h : Header} (entries : List ℕ) (head : HeaderOf area h)
     (r : ReadFrom lim area (held (headerOf area) rows bindings lines (take (entryRowWords * word area 0) entries)) list roots names) where
   -- the rows of the capacity lie in the slice
   pub front-fits : entryRowWords * h .capacity ≤ length entries

@@ -12,8 +12,8 @@ use step::answer::StepAnswer;
 
 // Takes a step on an area of any length and any bytes. The slices are those of `area::test::sound`.
 pub fn call_step(
-    area: &mut [u8],
     lim: Limits,
+    area: &mut [u8],
     rows: &mut [u32],
     bindings: &mut [u32],
     list: &mut [u32],
@@ -32,8 +32,8 @@ pub fn call_step(
     ensures { λ a. ⌜ Called (callStep (limitsOf lim) step (now (area .entry))) step a (now (area .exit)) ⌝ }
 {
     if !area::test::sound(
-        area,
         lim,
+        area,
         rows,
         bindings,
         list,
@@ -65,6 +65,6 @@ pub fn call_step(
         rights,
         cells,
     );
-    step::take::keep(area, lim, h, s, rows, bindings, lines, table);
+    step::take::keep(lim, area, h, s, rows, bindings, lines, table);
     s.answer
 }

@@ -38,6 +38,6 @@ pub fn open(capacity: u32, book: &[u8], area: &mut [u8]) -> u32
         return refusal;
     }
     let terms = decoded.terms;
-    area::save::opened(area, layout::limits::OFFICE, capacity, needed, &rows, terms);
+    area::save::opened(layout::limits::OFFICE, area, capacity, needed, &rows, terms);
     0
 }

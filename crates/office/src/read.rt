@@ -38,8 +38,8 @@ pub fn read(
     let mut rights = [0u32; PAIRS];
     let mut cells = [0u32; CELLS];
     area::test::sound(
-        area,
         layout::limits::OFFICE,
+        area,
         rows,
         &mut bindings,
         &mut list,

@@ -23,8 +23,8 @@ pub fn step(area: &mut [u8], step: Step) -> StepAnswer
     let mut rights = [0u32; PAIRS];
     let mut cells = [0u32; CELLS];
     calls::call_step(
-        area,
         layout::limits::OFFICE,
+        area,
         &mut rows,
         &mut bindings,
         &mut list,

@@ -35,7 +35,7 @@ fn goes_on(answer: Reply, over: usize) -> usize
 
 // Takes the step at position `at`. The text of its line goes into `text`, but that of a report into `report`, which keeps its first
 // `n` bytes from an earlier turn: while they are kept, a report is not made again. A refused step keeps them.
-pub fn turn(
+pub fn take_turn(
     input: &[u8],
     at: usize,
     area: &mut [u8],

@@ -14,7 +14,7 @@ ghost use Rattle.report.specs.numbering.Numbering.{Entries, EntryFits, C
 use layout::limits::ENTRY_WORDS;
 
 // The class of the entry in row `i`.
-fn class_of(entries: &[u32], i: usize) -> u32
+fn class_at(entries: &[u32], i: usize) -> u32
     requires { ⌜ entryRowWords * i + entryRowWords ≤ length (now entries) ⌝ }
     ensures { λ r. ⌜ r ≡ loadedEntry (now (entries .entry)) i .sameAs ⌝ }
 {
@@ -68,7 +68,7 @@ fn meet_all(
     let mut n = count;
     let mut j = 0;
     while j < items.len() {
-        let x = class_of(entries, items[j] as usize);
+        let x = class_at(entries, items[j] as usize);
         n = meet(m, met, numbers, n, x);
         j += 1;
     }
@@ -103,7 +103,7 @@ pub fn renumber(items: &[u32], entries: &[u32], numbers: &[u32], out: &mut [u32]
     let mut next = at;
     let mut j = 0;
     while j < items.len() {
-        let x = class_of(entries, items[j] as usize) as usize;
+        let x = class_at(entries, items[j] as usize) as usize;
         out[next] = numbers[x] - 1;
         next += 1;
         j += 1;

@@ -76,7 +76,7 @@ fn entry_length(names: &[u32], entries: &[u32], met: &[u32], numbers: &[u32], n:
 }
 
 // Writes the entry with number `n` to the front of `out`, which is long enough, and gives the number of bytes.
-fn put_entry(
+fn write_entry(
     names: &[u32],
     entries: &[u32],
     met: &[u32],
@@ -134,7 +134,7 @@ fn write_report(
     let mut at = runs::put_run(head, 0, head.len(), out, 0);
     let mut n = 0;
     while n < met.len() {
-        at += put_entry(names, entries, met, numbers, n, &mut out[at..]);
+        at += write_entry(names, entries, met, numbers, n, &mut out[at..]);
         n += 1;
     }
     at

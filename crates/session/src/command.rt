@@ -1,20 +1,22 @@
-// The step at a position of a session's input, as it is asked for (specs/command/Commands.antt; docs/SPEC.md, "Sessions").
+// The command at a position of a session's input (specs/command/Commands.antt; docs/SPEC.md, "Sessions").
 
 ghost use mathlib.Core.Path.{_≡_};
 ghost use Rattle.session.specs.command.Commands.{byNumber, commandAt};
 use step::answer::Step;
 
-// A step that is asked for, with its numbers and the position after it.
+// A command, with the position after it.
 pub enum Command {
     // the input has ended
     Ended,
     // a bad or cut number, or an unknown step
     Stopped(u32),
+    // a step is to be taken
     Take(Step, usize),
+    // a report is to be written
     Report(usize),
 }
 
-// The step numbered `n`, whose other numbers begin at position `at`.
+// The command numbered `n`, whose other numbers begin at position `at`.
 fn by_number(input: &[u8], n: u32, at: usize) -> Command
     ensures { λ r. ⌜ r ≡ byNumber (now (input .entry)) n at ⌝ }
 {
@@ -50,7 +52,7 @@ fn by_number(input: &[u8], n: u32, at: usize) -> Command
     }
 }
 
-// The step at position `at` of the input.
+// The command at position `at` of the input.
 pub fn command_at(input: &[u8], at: usize) -> Command
     ensures { λ r. ⌜ r ≡ commandAt (now (input .entry)) at ⌝ }
 {

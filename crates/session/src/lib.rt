@@ -2,7 +2,7 @@
 // and numbers as decimal text.
 //
 // text     numbers as decimal text in a buffer
-// command  the step at a position of a session's input, as it is asked for
+// command  the command at a position of a session's input
 // steps    a session opened, and one step of it
 
 pub mod command;

@@ -50,7 +50,7 @@ fn steps(
     let mut at = first;
     let mut kept: usize = 0;
     while at < input.len() {
-        let t = printing::turns::turn(input, at, area, out, report, kept, text);
+        let t = printing::turns::take_turn(input, at, area, out, report, kept, text);
         if !print(t, report, text) {
             return;
         }

@@ -2,7 +2,7 @@
 -- in the area.
 -- Here are the definitions that its contracts cite, by module. Assumes nothing.
 --
--- answer    what a step answers
+-- answer    a step, and what it answers and leaves
 -- grow      a pair of terms placed in a table, which is then walked through
 -- add_line  a line added
 -- settle    an indexed table walked through, and its same-as set

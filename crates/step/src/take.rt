@@ -73,8 +73,8 @@ pub fn take(
 
 // Stores the state after a step that was accepted; a refused one changes no byte.
 pub fn keep(
-    area: &mut [u8],
     lim: Limits,
+    area: &mut [u8],
     h: Header,
     s: Stepped,
     rows: &[u32],
@@ -96,6 +96,6 @@ pub fn keep(
             entries: s.entries,
             lines: s.lines,
         };
-        area::save::store(area, lim, header, rows, bindings, lines, entries);
+        area::save::store(lim, area, header, rows, bindings, lines, entries);
     }
 }

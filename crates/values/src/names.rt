@@ -26,7 +26,7 @@ fn mix(h: u64, c: u32) -> u64
 }
 
 // The hash of `symbol` and the classes of `args`.
-fn hash(symbol: u32, args: &[u32], classes: &[u32]) -> u64
+fn application_hash(symbol: u32, args: &[u32], classes: &[u32]) -> u64
     requires { ⌜ ((j : ℕ) → j < length (now args) → at (now args) j < length (now classes)) ⌝ }
     ensures { λ r. ⌜ r ≡ hashFrom symbol (map (at (now (classes .entry))) (now (args .entry))) ⌝ }
 {
@@ -52,7 +52,7 @@ fn key_hash(rows: &[u32], classes: &[u32], t: u32) -> u64
     }
     let first = row + 2;
     let end = first + rows[row + 1] as usize;
-    hash(symbol, &rows[first..end], classes)
+    application_hash(symbol, &rows[first..end], classes)
 }
 
 // Whether the classes of `args` and of `others` are the same, one by one.
@@ -95,7 +95,7 @@ fn same_key(rows: &[u32], classes: &[u32], t: u32, u: u32) -> bool
 }
 
 // The place of a term with the key of the application `t` among the first `k` of the list, or else `k`.
-fn search(rows: &[u32], classes: &[u32], list: &[u32], k: usize, t: u32) -> usize
+fn search_keys(rows: &[u32], classes: &[u32], list: &[u32], k: usize, t: u32) -> usize
     requires rows { ⌜ Rows (now rows) (length (now classes)) (now list) k × Row (now rows) (length (now classes)) t ⌝ }
     requires application { ⌜ (at (now rows) (termWords * t) ≡ 0 → ⊥) ⌝ }
     ensures { λ r. ⌜ Earlier (now (rows .entry)) (now (classes .entry)) (now (list .entry)) k t r ⌝ }
@@ -123,7 +123,7 @@ fn earlier(rows: &[u32], classes: &[u32], list: &[u32], k: usize, t: u32, place:
     if same_key(rows, classes, t, list[place]) {
         return place;
     }
-    search(rows, classes, list, k, t)
+    search_keys(rows, classes, list, k, t)
 }
 
 // The class of the term at place `k` of the list, where `classes` has the classes of the terms before it.

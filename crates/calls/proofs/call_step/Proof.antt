@@ -108,7 +108,7 @@ call-step-spec =
     slice-aggregate-table
     take-requires
     keep-requires
-    (λ c. c .before .before .before .before .keep .kept .0)
+    (λ c. c .before .before .before .before .keep .kept .1 .0)
     (λ c. loaded c .sound .kept .1 .1 .0)
     (λ c. taken c .take .kept .1 .1 .1 .0 ∙ loaded c .sound .kept .1 .1 .1 .0)
     (λ c. taken c .take .kept .1 .1 .1 .1 .0 ∙ loaded c .sound .kept .1 .1 .1 .1 .0)

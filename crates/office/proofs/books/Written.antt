@@ -22,7 +22,7 @@ unfolding callWrite
 book-seven area out e = tested-seven _ area out e
 
 -- An area that is, and what was read of it.
-module _ {area rows lines entries names : List ℕ} (h : Viewed area rows names lines entries) where
+module _ {area rows names lines entries : List ℕ} (h : Viewed area rows names lines entries) where
   -- the rows hold its book
   pub read-held : (terms : ℕ) → terms ≡ word area 1 → BookHeld rows terms (stateOf area office .book) (stateOf area office .bound)
   unfolding bookRows

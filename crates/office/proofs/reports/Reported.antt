@@ -44,7 +44,7 @@ ready-told {w} r =
     }
 
 -- An area that is, and what was read of it.
-module _ {area rows lines entries names : List ℕ} (h : Viewed area rows names lines entries) where
+module _ {area rows names lines entries : List ℕ} (h : Viewed area rows names lines entries) where
   -- the rows of its capacity and its lines lie in their slices, and its lines and entries are few
   pub cut-fits : (n : ℕ) → n ≡ word area 0 → entryRowWords * n ≤ length entries
   unfolding headerOf

@@ -13,17 +13,17 @@ use Rattle.report.proofs.numbering.Meeting.{meet-none, meet-more, map-m
 use Rattle.report.proofs.numbering.Rows.{class-row}
 
 -- The classes of the first j entries are met, from n₀ classes to n.
-pub record ItemsMet (entries : List ℕ) (m : ℕ) (items met₀ numbers₀ : List ℕ) (n₀ : ℕ) (met numbers : List ℕ) (n j : ℕ) : Type 0 where
+pub record ItemsMet (items entries : List ℕ) (m : ℕ) (met₀ numbers₀ : List ℕ) (n₀ : ℕ) (met numbers : List ℕ) (n j : ℕ) : Type 0 where
   pub within : j ≤ length items
   pub met-all : MetAll m met₀ n₀ (map (class (tableOf entries m)) (take j items)) met numbers n
   pub met-size : length met ≡ length met₀
   pub numbers-size : length numbers ≡ length numbers₀
 
-module _ {entries : List ℕ} {m : ℕ} {items met₀ numbers₀ : List ℕ} {n₀ : ℕ} where
-  pub items-none : MetSoFar m met₀ numbers₀ n₀ → ItemsMet entries m items met₀ numbers₀ n₀ met₀ numbers₀ n₀ 0
+module _ {items entries : List ℕ} {m : ℕ} {met₀ numbers₀ : List ℕ} {n₀ : ℕ} where
+  pub items-none : MetSoFar m met₀ numbers₀ n₀ → ItemsMet items entries m met₀ numbers₀ n₀ met₀ numbers₀ n₀ 0
   items-none c = record { within = omega arith; met-all = meet-none c; met-size = refl; numbers-size = refl }
 
-  module _ (ok : Closed entries m × Entries m items) {met numbers : List ℕ} {n j : ℕ} (h : ItemsMet entries m items met₀ numbers₀ n₀ met numbers n j) where
+  module _ (ok : Closed entries m × Entries m items) {met numbers : List ℕ} {n j : ℕ} (h : ItemsMet items entries m met₀ numbers₀ n₀ met numbers n j) where
     module _ (l : j < length items) where
       -- the next entry has a row
       pub item-row : entryRowWords * at items j + entryRowWords ≤ length entries
@@ -39,7 +39,7 @@ module _ {entries : List ℕ} {m : ℕ} {items met₀ numbers₀ : List ℕ} {n�
 
         -- and is met
         pub items-more : {met′ numbers′ : List ℕ} {n′ : ℕ} → MetAll m met n (x ∷ []) met′ numbers′ n′ → length met′ ≡ length met
-            → length numbers′ ≡ length numbers → ItemsMet entries m items met₀ numbers₀ n₀ met′ numbers′ n′ (j + 1)
+            → length numbers′ ≡ length numbers → ItemsMet items entries m met₀ numbers₀ n₀ met′ numbers′ n′ (j + 1)
         items-more g p q =
             record {
               within = omega arith;

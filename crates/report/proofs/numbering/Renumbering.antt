@@ -12,16 +12,16 @@ use Rattle.report.specs.numbering.Numbering.{newNumber}
 use Rattle.report.proofs.numbering.Meeting.{map-more}
 
 -- The numbers of the first j entries are put into the slice from `place` on.
-pub record Renumbered (entries items numbers out₀ : List ℕ) (place : ℕ) (out : List ℕ) (next j : ℕ) : Type 0 where
+pub record Renumbered (items entries numbers out₀ : List ℕ) (place : ℕ) (out : List ℕ) (next j : ℕ) : Type 0 where
   pub within : j ≤ length items
   pub place-is : next ≡ place + j
   pub laid : Laid out₀ place (map (newNumber entries numbers) (take j items)) out next
 
-module _ {entries items numbers out₀ : List ℕ} {place : ℕ} where
-  pub renumber-none : Renumbered entries items numbers out₀ place out₀ place 0
+module _ {items entries numbers out₀ : List ℕ} {place : ℕ} where
+  pub renumber-none : Renumbered items entries numbers out₀ place out₀ place 0
   renumber-none = record { within = omega arith; place-is = omega arith; laid = laid-none out₀ place }
 
-  module _ (room : place + length items ≤ length out₀) {out : List ℕ} {next j : ℕ} (h : Renumbered entries items numbers out₀ place out next j) where
+  module _ (room : place + length items ≤ length out₀) {out : List ℕ} {next j : ℕ} (h : Renumbered items entries numbers out₀ place out next j) where
     done-fits : place + length (map (newNumber entries numbers) (take j items)) ≤ length out₀
     done-fits = rw (length-map, length-take-le j items (h .within)) (omega (arith, h .within))
 
@@ -35,7 +35,7 @@ module _ {entries items numbers out₀ : List ℕ} {place : ℕ} where
       renumber-room = omega (arith, renumber-length, h .place-is)
 
       pub renumber-more : (x : ℕ) → x ≡ loadedEntry entries (at items j) .sameAs
-          → Renumbered entries items numbers out₀ place (set out next (at numbers x - 1)) (next + 1) (j + 1)
+          → Renumbered items entries numbers out₀ place (set out next (at numbers x - 1)) (next + 1) (j + 1)
       renumber-more x e =
           record {
             within = omega arith;

@@ -45,16 +45,16 @@ cleared {m} {met} {numbers} numbers′ room e same =
     }
 
 -- The numbering with the arguments of the first i numbers met: n classes were met, and what is left leads to the order.
-pub record Reached (entries : List ℕ) (m : ℕ) (lines met₀ numbers₀ met numbers : List ℕ) (n i : ℕ) : Type 0 where
+pub record Reached (lines entries : List ℕ) (m : ℕ) (met₀ numbers₀ met numbers : List ℕ) (n i : ℕ) : Type 0 where
   pub counted : MetSoFar m met numbers n
   pub ahead : order (tableOf entries m) lines ≡ meetArguments (tableOf entries m) (m - i) i (take n met)
   pub met-size : length met ≡ length met₀
   pub numbers-size : length numbers ≡ length numbers₀
 
-module _ {entries : List ℕ} {m : ℕ} {lines : List ℕ} where
+module _ {lines entries : List ℕ} {m : ℕ} where
   -- once the lines' classes are met
   pub reached-lines : {met₀ met numbers : List ℕ} {n : ℕ} → MetAll m met₀ 0 (map (class (tableOf entries m)) lines) met numbers n
-      → Reached entries m lines met numbers met numbers n 0
+      → Reached lines entries m met numbers met numbers n 0
   unfolding order
   reached-lines {met₀} {met} {numbers} {n} h =
       record {
@@ -64,7 +64,7 @@ module _ {entries : List ℕ} {m : ℕ} {lines : List ℕ} where
         numbers-size = refl;
       }
 
-  module _ {met₀ numbers₀ met numbers : List ℕ} {n i : ℕ} (h : Reached entries m lines met₀ numbers₀ met numbers n i) where
+  module _ {met₀ numbers₀ met numbers : List ℕ} {n i : ℕ} (h : Reached lines entries m met₀ numbers₀ met numbers n i) where
     -- number i is a class
     pub number-class : i < n → at met i < m
     number-class l =
@@ -72,7 +72,7 @@ module _ {entries : List ℕ} {m : ℕ} {lines : List ℕ} where
 
     -- once the classes of its arguments are met
     pub reached-more : i < n → {met′ numbers′ : List ℕ} {n′ : ℕ} → MetAll m met n (argumentClasses (tableOf entries m) (at met i)) met′ numbers′ n′
-        → length met′ ≡ length met → length numbers′ ≡ length numbers → Reached entries m lines met₀ numbers₀ met′ numbers′ n′ (i + 1)
+        → length met′ ≡ length met → length numbers′ ≡ length numbers → Reached lines entries m met₀ numbers₀ met′ numbers′ n′ (i + 1)
     reached-more l {met′} {numbers′} {n′} g p q =
         let fuel : m - i ≡ suc (m - (i + 1)) = omega (arith, h .counted .few) in
         let next = arguments-next (tableOf entries m) (m - (i + 1)) i (take n met) (omega (arith, counted-length (h .counted))) in

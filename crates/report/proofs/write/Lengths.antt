@@ -11,7 +11,7 @@ use Rattle.report.specs.write.Shown.{classes, headNumbers, rowNumbers, S
 use Rattle.report.proofs.write.Rows.{within}
 use Rattle.report.proofs.write.Bytes.{run-whole, headBytes, rowsBytes, rows-none, length-rows-more, report-parts, rows-short, report-few}
 
-module _ (entries numbers names met head : List ℕ) where
+module _ (names entries met numbers head : List ℕ) where
   -- the sum is that of the numbers before the entries and of the first n entries
   abbrev pub Sum : ℕ → ℕ → Type 0
   Sum sum n = (s : State) → Shown s names entries met numbers → head ≡ headNumbers s → sum ≡ length (headBytes s) + length (rowsBytes s n)
@@ -20,15 +20,15 @@ module _ (entries numbers names met head : List ℕ) where
   abbrev pub Takes : ℕ → ℕ → Type 0
   Takes r n = (s : State) → Shown s names entries met numbers → r ≡ length (numberBytes (rowNumbers s n))
 
-module _ {entries numbers names met head : List ℕ} where
-  pub sum-none : {sum : ℕ} → sum ≡ length (runBytes head 0 (length head)) → Sum entries numbers names met head sum 0
+module _ {names entries met numbers head : List ℕ} where
+  pub sum-none : {sum : ℕ} → sum ≡ length (runBytes head 0 (length head)) → Sum names entries met numbers head sum 0
   sum-none {sum} e s shown f =
       let first : sum ≡ length (headBytes s) = e ∙ rw (run-whole head, f) in
       rw (rows-none s) (omega arith)
 
-  module _ {sum n r : ℕ} (l : n < length met) (h : Sum entries numbers names met head sum n) (g : Takes entries numbers names met head r n) where
+  module _ {sum n r : ℕ} (l : n < length met) (h : Sum names entries met numbers head sum n) (g : Takes names entries met numbers head r n) where
     -- an entry more
-    pub sum-more : Sum entries numbers names met head (sum + r) (n + 1)
+    pub sum-more : Sum names entries met numbers head (sum + r) (n + 1)
     sum-more s shown f = omega (arith, h s shown f, g s shown, length-rows-more s n (within shown n l))
 
     -- which fits
@@ -36,7 +36,7 @@ module _ {entries numbers names met head : List ℕ} where
     sum-fits {s} shown f = omega (arith, sum-more s shown f, rows-short s (n + 1), report-few (shown .tabled))
 
   -- all entries
-  pub sum-all : {sum n : ℕ} → n ≡ length met → Sum entries numbers names met head sum n
+  pub sum-all : {sum n : ℕ} → n ≡ length met → Sum names entries met numbers head sum n
       → (s : State) → Shown s names entries met numbers → head ≡ headNumbers s → sum ≡ length (reportBytes s)
   sum-all {sum} {n} e h s shown f =
       let all : n ≡ length (classes s) = e ∙ ap length (shown .is-order) in

@@ -34,9 +34,9 @@ row-symbol : (entries : List ℕ) (i : ℕ) → (at entries (entryRowWords * i +
 row-symbol entries i h = row-common entries i h ∙ rw (common-arguments entries i h)
 
 -- the arguments that are lent have marks
-pub lent-marked : {entries numbers names : List ℕ} {i : ℕ} → EntryReadable names entries numbers i → (k : ℕ)
+pub lent-marked : {names entries numbers : List ℕ} {i : ℕ} → EntryReadable names entries numbers i → (k : ℕ)
     (are : kindArguments (loadedEntry entries i .kind) ≡ take k (drop (entryRowWords * i + 5) entries)) → Marks entries numbers (lent entries i k are)
-lent-marked {entries} {numbers} {names} {i} h k are = rw (lent-words entries i k are) (h .marked)
+lent-marked {names} {entries} {numbers} {i} h k are = rw (lent-words entries i k are) (h .marked)
 
 -- four numbers, and the others laid behind them
 filled : (a b c d : ℕ) (rest xs end : List ℕ) (n : ℕ) → end ≡ overAt (a ∷ b ∷ c ∷ d ∷ rest) 4 xs → length xs ≡ n → take (4 + n) end ≡ a ∷ b ∷ c ∷ d ∷ xs
@@ -45,7 +45,7 @@ filled a b c d rest xs end n e f =
     let more : 4 + n ≡ suc (suc (suc (suc n))) = omega arith in
     rw (e, more, take-at xs (drop (4 + length xs) (a ∷ b ∷ c ∷ d ∷ rest)) n f)
 
-module _ {s : State} {entries numbers names met : List ℕ} (shown : Shown s names entries met numbers) (n : ℕ) (l : n < length met) where
+module _ {s : State} {names entries met numbers : List ℕ} (shown : Shown s names entries met numbers) (n : ℕ) (l : n < length met) where
   t : Tabled s entries numbers
   t = shown .tabled
 

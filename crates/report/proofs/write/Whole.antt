@@ -16,7 +16,7 @@ head-length : (s : State) → length (headNumbers s) ≡ length (s .lines) + 2
 unfolding headNumbers
 head-length s = rw (length-append, length-map) (omega arith)
 
-module _ {s : State} {entries lines names : List ℕ} {m : ℕ} (t : Told s names lines entries) (e : m ≡ length (s .entries)) where
+module _ {s : State} {names lines entries : List ℕ} {m : ℕ} (t : Told s names lines entries) (e : m ≡ length (s .entries)) where
   -- the classes can be numbered
   pub told-closed : Closed entries m × Entries m lines
   told-closed = rw (e, t .is-lines) (closed (t .held), line-entries (t .held))

@@ -15,7 +15,7 @@ use Rattle.report.proofs.write.Rows.{within}
 use Rattle.report.proofs.write.Bytes.{run-whole, headBytes, rowBytes, rowsBytes, rows-none, rows-more, length-rows-more, report-parts, rows-short, head-small}
 
 -- the numbers before the entries can be written
-module _ {s : State} {entries numbers names met head : List ℕ} (shown : Shown s names entries met numbers) (e : head ≡ headNumbers s) where
+module _ {s : State} {names entries met numbers head : List ℕ} (shown : Shown s names entries met numbers) (e : head ≡ headNumbers s) where
   pub head-words : smallWords (take (length head) (drop 0 head))
   head-words = rw (take-length head, e) (head-small (shown .tabled))
 
@@ -28,18 +28,18 @@ pub head-laid : (s : State) (head out out₀ : List ℕ) (at₀ : ℕ) → head 
 head-laid s head out out₀ at₀ e laid = rw (run-whole head, e) at laid
 
 -- The first n entries are laid behind what was written before them, in a slice that stays as long.
-pub record Written (entries numbers names met head out₀ : List ℕ) (at₀ : ℕ) (out : List ℕ) (at n : ℕ) : Type 0 where
+pub record Written (names entries met numbers head out₀ : List ℕ) (at₀ : ℕ) (out : List ℕ) (at n : ℕ) : Type 0 where
   pub below : n ≤ length met
   pub same-size : length out ≡ length out₀
   pub fits : at ≤ length out₀
   pub laid : (s : State) → Shown s names entries met numbers → head ≡ headNumbers s → Laid out₀ at₀ (rowsBytes s n) out at
 
-module _ {entries numbers names met head : List ℕ} where
-  pub written-none : {out₀ : List ℕ} {at₀ : ℕ} → at₀ ≤ length out₀ → Written entries numbers names met head out₀ at₀ out₀ at₀ 0
+module _ {names entries met numbers head : List ℕ} where
+  pub written-none : {out₀ : List ℕ} {at₀ : ℕ} → at₀ ≤ length out₀ → Written names entries met numbers head out₀ at₀ out₀ at₀ 0
   written-none {out₀} {at₀} h =
       record { below = omega arith; same-size = refl; fits = h; laid = λ s shown e. rw (rows-none s) (laid-none out₀ at₀) }
 
-  module _ {out₀ : List ℕ} {at₀ : ℕ} {out : List ℕ} {at n : ℕ} (w : Written entries numbers names met head out₀ at₀ out at n) where
+  module _ {out₀ : List ℕ} {at₀ : ℕ} {out : List ℕ} {at n : ℕ} (w : Written names entries met numbers head out₀ at₀ out at n) where
     module _ (l : n < length met) where
       -- there is room for an entry more
       pub entry-room : {s : State} → Shown s names entries met numbers → head ≡ headNumbers s → at₀ ≡ length (headBytes s)
@@ -52,7 +52,7 @@ module _ {entries numbers names met head : List ℕ} where
       pub written-more : (r : ℕ) (last : List ℕ)
           → ((s : State) → Shown s names entries met numbers → (r ≡ length (rowBytes s n)) × (last ≡ rowBytes s n ++ drop r (tail out at)))
           → r ≤ length (tail out at) → length last ≡ length (tail out at)
-          → Written entries numbers names met head out₀ at₀ (take at out ++ (last ++ drop (length out - at) (drop at out))) (at + r) (n + 1)
+          → Written names entries met numbers head out₀ at₀ (take at out ++ (last ++ drop (length out - at) (drop at out))) (at + r) (n + 1)
       written-more r last h small same =
           record {
             below = omega arith;

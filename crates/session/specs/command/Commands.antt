@@ -1,4 +1,4 @@
--- The step that a session's input asks for at a position (document 01, "Sessions"). Definitions, and a statement of what is proved in
+-- The command at a position of a session's input (document 01, "Sessions"). Definitions, and a statement of what is proved in
 -- proofs/.
 use mathlib.Core.List.{List}
 use mathlib.Core.Bool.{cond}
@@ -27,7 +27,7 @@ module _ (input : List ℕ) where
   unfoldable pub withTwo : ℕ → (ℕ → ℕ → ℕ → Command) → Command
   withTwo at then = withNumber at (λ m at′. withNumber at′ (then m))
 
-  -- A step by its number: 1 l r adds a line, 2 v t fixes a choice, 3 reports; any other is 8 and stops the session.
+  -- A command by its number: 1 l r adds a line, 2 v t fixes a choice, 3 reports; any other is 8 and stops the session.
   unfoldable pub byNumber : ℕ → ℕ → Command
   byNumber zero at = Stopped 8
   byNumber (suc zero) at = withTwo at (λ l r next. Take (Add l r) next)
@@ -35,17 +35,17 @@ module _ (input : List ℕ) where
   byNumber (suc (suc (suc zero))) at = Report at
   byNumber (suc (suc (suc (suc n)))) at = Stopped 8
 
-  -- The step at a position; where the input has ended there is none.
+  -- The command at a position, `Ended` where the input has ended.
   unfoldable pub commandAt : ℕ → Command
   commandAt at = cond (ltb at (length input)) (withNumber at byNumber) Ended
 
--- The position behind a step, if it has one, lies behind the position p and within n bytes.
+-- The position behind a command, if it has one, lies behind the position p and within n bytes.
 abbrev pub Behind : ℕ → ℕ → Command → Type 0
 Behind p n Ended = Unit {0}
 Behind p n (Stopped k) = Unit {0}
 Behind p n (Take step next) = (p < next) × (next ≤ n)
 Behind p n (Report next) = (p < next) × (next ≤ n)
 
--- STATEMENT. Every step takes at least a byte.
+-- STATEMENT. Every command takes at least a byte.
 abbrev pub CommandsGoOn : Type 0
 CommandsGoOn = (input : List ℕ) (at : ℕ) → Behind at (length input) (commandAt input at)

@@ -31,11 +31,11 @@ less-left input area out at next l e =
 loop-holds : tie.Need-loop-holds Inv-loop μ-loop
 loop-holds c = (refl, refl, refl, refl, λ h. absurd (h refl))
 
-turn-requires : tie.Need-turn-requires Inv-loop μ-loop
-turn-requires c κs = ((search needs, search needs), c .before .before .before .before .before .loop .inv .4)
+take-turn-requires : tie.Need-take-turn-requires Inv-loop μ-loop
+take-turn-requires c κs = ((search needs, search needs), c .before .before .before .before .before .loop .inv .4)
 
 print-requires : tie.Need-print-requires Inv-loop μ-loop
-print-requires c κs = c .before .before .before .before .before .before .before .before .before .before .turn .ensures .1 .1 .1 .0 .0
+print-requires c κs = c .before .before .before .before .before .before .before .before .before .before .take-turn .ensures .1 .1 .1 .0 .0
 
 same-length : tie.Need-same-length Inv-loop μ-loop
 same-length c = search needs
@@ -58,10 +58,10 @@ loop-less c =
     let tested = turned .before .before .before .before .before in
     let top = tested .before in
     let start = top .before .before .before .before .before .before in
-    less-left (now (start .args .input)) (top .loop .area) (top .loop .out) (top .loop .at) _ (tested .loop-test .taken) (turned .turn .ensures .1 .1 .0)
+    less-left (now (start .args .input)) (top .loop .area) (top .loop .out) (top .loop .at) _ (tested .loop-test .taken) (turned .take-turn .ensures .1 .1 .0)
 
 loop-again : tie.Need-loop-again Inv-loop μ-loop
-loop-again c = (search needs, search needs, search needs, search needs, c .before .before .before .before .before .before .before .before .before .before .before .before .turn .ensures .1 .1 .1 .1)
+loop-again c = (search needs, search needs, search needs, search needs, c .before .before .before .before .before .before .before .before .before .before .before .before .take-turn .ensures .1 .1 .1 .1)
 
 same-length-5 : tie.Need-same-length-5 Inv-loop μ-loop
 same-length-5 c = search needs
@@ -85,7 +85,7 @@ steps-spec =
     Inv-loop
     μ-loop
     loop-holds
-    turn-requires
+    take-turn-requires
     print-requires
     same-length
     same-length-2

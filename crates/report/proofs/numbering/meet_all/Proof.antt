@@ -8,7 +8,7 @@ use Rattle.report.proofs.numbering.meet_all.Statement.{statement}
 use Rattle.report.proofs.numbering.meet_all.Tie as tie
 
 abbrev Inv-loop : tie.InvT-loop
-Inv-loop items entries m met₀ numbers₀ count n₀ j₀ met numbers n j = ItemsMet entries m items met₀ numbers₀ count met numbers n j
+Inv-loop items entries m met₀ numbers₀ count n₀ j₀ met numbers n j = ItemsMet items entries m met₀ numbers₀ count met numbers n j
 
 abbrev μ-loop : tie.MeasureT-loop
 μ-loop items entries m met₀ numbers₀ count n₀ j₀ met numbers n j = length items - j
@@ -16,23 +16,23 @@ abbrev μ-loop : tie.MeasureT-loop
 loop-holds : tie.Need-loop-holds Inv-loop μ-loop
 loop-holds c = items-none (c .before .before .before .before .pre .1)
 
-mul-class-of : tie.Need-mul-class-of Inv-loop μ-loop
-mul-class-of c = omega arith
+mul-class-at : tie.Need-mul-class-at Inv-loop μ-loop
+mul-class-at c = omega arith
 
-shared-slice-read-class-of : tie.Need-shared-slice-read-class-of Inv-loop μ-loop
-shared-slice-read-class-of c = omega arith
+shared-slice-read-class-at : tie.Need-shared-slice-read-class-at Inv-loop μ-loop
+shared-slice-read-class-at c = omega arith
 
-cast-class-of : tie.Need-cast-class-of Inv-loop μ-loop
-cast-class-of c = omega (arith, c .shared-slice-known3 .given (c .before .before .loop .j))
+cast-class-at : tie.Need-cast-class-at Inv-loop μ-loop
+cast-class-at c = omega (arith, c .shared-slice-known3 .given (c .before .before .loop .j))
 
-class-of-requires : tie.Need-class-of-requires Inv-loop μ-loop
-class-of-requires c κs = item-row (c .before .before .before .before .before .before .before .pre .0) (c .before .before .loop .inv) (c .before .loop-test .taken)
+class-at-requires : tie.Need-class-at-requires Inv-loop μ-loop
+class-at-requires c κs = item-row (c .before .before .before .before .before .before .before .pre .0) (c .before .before .loop .inv) (c .before .loop-test .taken)
 
 meet-requires : tie.Need-meet-requires Inv-loop μ-loop
 meet-requires c κs =
     let start = c .before .before .before .before .before .before .before .before .before .before in
     let head = c .before .before .before .before .before in
-    (head .loop .inv .met-all .counted, item-class (start .pre .0) (head .loop .inv) (c .before .before .before .before .loop-test .taken) _ (c .before .before .class-of .ensures))
+    (head .loop .inv .met-all .counted, item-class (start .pre .0) (head .loop .inv) (c .before .before .before .before .loop-test .taken) _ (c .before .before .class-at .ensures))
 
 add-j : tie.Need-add-j Inv-loop μ-loop
 add-j c = omega (arith, c .before .before .before .before .before .before .before .before .before .loop-test .taken)
@@ -46,7 +46,7 @@ loop-again c =
     let start = head .before .before .before .before .before in
     let met = c .before .before .before .before .meet in
     items-more (start .pre .0) (head .loop .inv) (c .before .before .before .before .before .before .before .before .before .loop-test .taken) _
-    (c .before .before .before .before .before .before .before .class-of .ensures) (met .ensures) (met .kept .1 .0) (met .kept .1 .1 .0)
+    (c .before .before .before .before .before .before .before .class-at .ensures) (met .ensures) (met .kept .1 .0) (met .kept .1 .1 .0)
 
 same-length : tie.Need-same-length Inv-loop μ-loop
 same-length c = c .before .loop .inv .met-size
@@ -64,10 +64,10 @@ meet-all-spec =
     Inv-loop
     μ-loop
     loop-holds
-    mul-class-of
-    shared-slice-read-class-of
-    cast-class-of
-    class-of-requires
+    mul-class-at
+    shared-slice-read-class-at
+    cast-class-at
+    class-at-requires
     meet-requires
     add-j
     loop-less

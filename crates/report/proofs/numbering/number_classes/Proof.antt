@@ -8,7 +8,7 @@ use Rattle.report.proofs.numbering.number_classes.Statement.{statement}
 use Rattle.report.proofs.numbering.number_classes.Tie as tie
 
 abbrev Inv-loop : tie.InvT-loop
-Inv-loop lines entries m met₀ numbers₀ count₀ i₀ met numbers count i = Reached entries m lines met₀ numbers₀ met numbers count i
+Inv-loop lines entries m met₀ numbers₀ count₀ i₀ met numbers count i = Reached lines entries m met₀ numbers₀ met numbers count i
 
 abbrev μ-loop : tie.MeasureT-loop
 μ-loop lines entries m met₀ numbers₀ count₀ i₀ met numbers count i = m - i

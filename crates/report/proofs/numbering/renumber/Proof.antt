@@ -9,13 +9,13 @@ use Rattle.report.proofs.numbering.renumber.Statement.{statement}
 use Rattle.report.proofs.numbering.renumber.Tie as tie
 
 abbrev Inv-loop : tie.InvT-loop
-Inv-loop items entries numbers out₀ at next₀ j₀ out next j = Renumbered entries items numbers out₀ at out next j
+Inv-loop items entries numbers out₀ at next₀ j₀ out next j = Renumbered items entries numbers out₀ at out next j
 
 abbrev μ-loop : tie.MeasureT-loop
 μ-loop items entries numbers out₀ at next₀ j₀ out next j = length items - j
 
 -- the class that is read has a mark
-marked : (c : tie.After-class-of Inv-loop μ-loop)
+marked : (c : tie.After-class-at Inv-loop μ-loop)
     → let args = c .before .before .before .before .before .before .before .before .args in Marked (args .entries .now) (args .numbers .now) (getD (args .items .now) (c .before .before .before .loop .j) 0)
 marked c = c .before .before .before .before .before .before .before .before .pre .0 (c .before .before .before .loop .j) (c .before .before .loop-test .taken)
 
@@ -26,17 +26,17 @@ room c = renumber-room (c .before .before .before .before .before .before .befor
 loop-holds : tie.Need-loop-holds Inv-loop μ-loop
 loop-holds c = renumber-none
 
-mul-class-of : tie.Need-mul-class-of Inv-loop μ-loop
-mul-class-of c = omega arith
+mul-class-at : tie.Need-mul-class-at Inv-loop μ-loop
+mul-class-at c = omega arith
 
-shared-slice-read-class-of : tie.Need-shared-slice-read-class-of Inv-loop μ-loop
-shared-slice-read-class-of c = omega arith
+shared-slice-read-class-at : tie.Need-shared-slice-read-class-at Inv-loop μ-loop
+shared-slice-read-class-at c = omega arith
 
-cast-class-of : tie.Need-cast-class-of Inv-loop μ-loop
-cast-class-of c = omega (arith, c .shared-slice-known4 .given (c .before .before .loop .j))
+cast-class-at : tie.Need-cast-class-at Inv-loop μ-loop
+cast-class-at c = omega (arith, c .shared-slice-known4 .given (c .before .before .loop .j))
 
-class-of-requires : tie.Need-class-of-requires Inv-loop μ-loop
-class-of-requires c κs = c .before .before .before .before .before .before .before .pre .0 (c .before .before .loop .j) (c .before .loop-test .taken) .within
+class-at-requires : tie.Need-class-at-requires Inv-loop μ-loop
+class-at-requires c κs = c .before .before .before .before .before .before .before .pre .0 (c .before .before .loop .j) (c .before .loop-test .taken) .within
 
 cast-x : tie.Need-cast-x Inv-loop μ-loop
 cast-x c = omega (arith, marked c)
@@ -48,7 +48,7 @@ shared-slice-read-out : tie.Need-shared-slice-read-out Inv-loop μ-loop
 shared-slice-read-out c = omega (arith, marked (c .before))
 
 sub-out : tie.Need-sub-out Inv-loop μ-loop
-sub-out c = rw (c .before .class-of .ensures) (marked (c .before) .marked)
+sub-out c = rw (c .before .class-at .ensures) (marked (c .before) .marked)
 
 mul-out-2 : tie.Need-mul-out-2 Inv-loop μ-loop
 mul-out-2 c = omega (arith, room c)
@@ -66,7 +66,7 @@ loop-less : tie.Need-loop-less Inv-loop μ-loop
 loop-less c = omega arith
 
 loop-again : tie.Need-loop-again Inv-loop μ-loop
-loop-again c = renumber-more (c .before .before .before .before .before .before .before .before .before .pre .1) (c .before .before .before .before .loop .inv) (c .before .before .before .loop-test .taken) _ (c .before .class-of .ensures)
+loop-again c = renumber-more (c .before .before .before .before .before .before .before .before .before .pre .1) (c .before .before .before .before .loop .inv) (c .before .before .before .loop-test .taken) _ (c .before .class-at .ensures)
 
 same-length : tie.Need-same-length Inv-loop μ-loop
 same-length c = renumber-length (c .before .before .before .before .before .before .pre .1) (c .before .loop .inv)
@@ -81,10 +81,10 @@ renumber-spec =
     Inv-loop
     μ-loop
     loop-holds
-    mul-class-of
-    shared-slice-read-class-of
-    cast-class-of
-    class-of-requires
+    mul-class-at
+    shared-slice-read-class-at
+    cast-class-at
+    class-at-requires
     cast-x
     mul-out
     shared-slice-read-out

@@ -10,7 +10,7 @@ use Rattle.report.proofs.write.report_length.Tie as tie
 
 abbrev Inv-loop : tie.InvT-loop
 Inv-loop names entries met numbers head sum₀ n₀ sum n =
-    (n ≤ length met) × Sum entries numbers names met head sum n
+    (n ≤ length met) × Sum names entries met numbers head sum n
 
 abbrev μ-loop : tie.MeasureT-loop
 μ-loop names entries met numbers head sum₀ n₀ sum n = length met - n

@@ -12,7 +12,7 @@ use Rattle.report.proofs.write.write_report.Tie as tie
 
 abbrev Inv-loop : tie.InvT-loop
 Inv-loop names entries met numbers head out₀ at₀ n₀ out at n =
-    Written entries numbers names met head out₀ at₀ out at n
+    Written names entries met numbers head out₀ at₀ out at n
 
 abbrev μ-loop : tie.MeasureT-loop
 μ-loop names entries met numbers head out₀ at₀ n₀ out at n = length met - n
@@ -40,17 +40,17 @@ room c =
     entry-room (c .before .loop .inv) (c .loop-test .taken) (given .holds .0) (given .holds .1) (omega (arith, first .0))
     (omega (arith, put .kept .1 .1 .1 .0, given .holds .2))
 
-sub-put-entry : tie.Need-sub-put-entry Inv-loop μ-loop
-sub-put-entry c = omega arith
+sub-write-entry : tie.Need-sub-write-entry Inv-loop μ-loop
+sub-write-entry c = omega arith
 
-part-put-entry-start : tie.Need-part-put-entry-start Inv-loop μ-loop
-part-put-entry-start c = omega arith
+part-write-entry-start : tie.Need-part-write-entry-start Inv-loop μ-loop
+part-write-entry-start c = omega arith
 
-part-put-entry-end : tie.Need-part-put-entry-end Inv-loop μ-loop
-part-put-entry-end c = omega arith
+part-write-entry-end : tie.Need-part-write-entry-end Inv-loop μ-loop
+part-write-entry-end c = omega arith
 
-put-entry-requires : tie.Need-put-entry-requires Inv-loop μ-loop
-put-entry-requires c κs =
+write-entry-requires : tie.Need-write-entry-requires Inv-loop μ-loop
+write-entry-requires c κs =
     let given = c .before .before .before .before .before .before .before .before .before .before .before .before .before .pre in
     (record { state = given .state; holds = (given .holds .0, room (c .before)) }, c .before .loop-test .taken)
 
@@ -58,7 +58,7 @@ add-at : tie.Need-add-at Inv-loop μ-loop
 add-at c =
     let turn = c .before .before .before .before in
     let start = turn .before .before .before .before .before .before .before .before .before .before .before .before in
-    let written = c .before .before .put-entry .ensures (start .pre .state) (start .pre .holds .0) in
+    let written = c .before .before .write-entry .ensures (start .pre .state) (start .pre .holds .0) in
     omega (arith, turn .before .loop .inv, turn .before .before .before .before .put-run .kept .1 .1 .1 .0, start .good, room turn, written .0, tail-length (turn .before .loop .out) (turn .before .loop .at))
 
 add-n : tie.Need-add-n Inv-loop μ-loop
@@ -71,7 +71,7 @@ loop-again : tie.Need-loop-again Inv-loop μ-loop
 loop-again c =
     let turn = c .before .before .before .before in
     let given = turn .before .before .before .before .before .before .before .before .before .before .before .before .pre in
-    let put = c .before .before .put-entry in
+    let put = c .before .before .write-entry in
     written-more (turn .before .loop .inv) (turn .loop-test .taken) _ _ (put .ensures)
     (omega (arith, room turn, put .ensures (given .state) (given .holds .0) .0)) (put .kept .1 .1 .1 .1 .1 .0)
 
@@ -91,10 +91,10 @@ write-report-spec =
     μ-loop
     put-run-requires
     loop-holds
-    sub-put-entry
-    part-put-entry-start
-    part-put-entry-end
-    put-entry-requires
+    sub-write-entry
+    part-write-entry-start
+    part-write-entry-end
+    write-entry-requires
     add-at
     add-n
     loop-less

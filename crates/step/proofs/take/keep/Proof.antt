@@ -19,4 +19,4 @@ returns-2 : tie.Need-returns-2
 returns-2 c = sym (not-stored _ _ _ (λ e. c .if1 .left (c .before .refusal-number .ensures ∙ e)))
 
 pub keep-spec : {M : Type 1} → statement M
-keep-spec = tie.close (tie.spec (λ c κs. search needs) store-requires (λ c. c .before .before .store .kept .0) returns returns-2)
+keep-spec = tie.close (tie.spec (λ c κs. search needs) store-requires (λ c. c .before .before .store .kept .1 .0) returns returns-2)

@@ -19,11 +19,11 @@ same-key-requires c κs = ((c .before .before .before .before .before .pre .0 .1
 returns-2 : tie.Need-returns-2
 returns-2 c = found-at (omega (arith, c .before .before .before .before .before .before .before .pre .1 .1 .0, c .before .before .before .if1 .left)) (test-same _ _ _ (c .before .same-key .ensures) (c .if2 .taken))
 
-search-requires : tie.Need-search-requires
-search-requires c κs = (c .before .before .before .before .before .before .before .pre .0, c .before .before .before .before .before .before .before .pre .1 .0)
+search-keys-requires : tie.Need-search-keys-requires
+search-keys-requires c κs = (c .before .before .before .before .before .before .before .pre .0, c .before .before .before .before .before .before .before .pre .1 .0)
 
 returns-3 : tie.Need-returns-3
-returns-3 c = c .search .ensures
+returns-3 c = c .search-keys .ensures
 
 pub earlier-spec : {M : Type 1} → statement M
 earlier-spec =
@@ -34,5 +34,5 @@ earlier-spec =
     shared-slice-read-same-key
     same-key-requires
     returns-2
-    search-requires
+    search-keys-requires
     returns-3)

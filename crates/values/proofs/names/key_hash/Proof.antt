@@ -36,23 +36,23 @@ cast-end c = search needs
 add-end-2 : tie.Need-add-end-2
 add-end-2 c = search needs
 
-mul-hash : tie.Need-mul-hash
-mul-hash c = search needs
+mul-application-hash : tie.Need-mul-application-hash
+mul-application-hash c = search needs
 
-sub-hash : tie.Need-sub-hash
-sub-hash c = search needs
+sub-application-hash : tie.Need-sub-application-hash
+sub-application-hash c = search needs
 
-part-hash-start : tie.Need-part-hash-start
-part-hash-start c = search needs
+part-application-hash-start : tie.Need-part-application-hash-start
+part-application-hash-start c = search needs
 
-part-hash-end : tie.Need-part-hash-end
-part-hash-end c = search needs
+part-application-hash-end : tie.Need-part-application-hash-end
+part-application-hash-end c = search needs
 
-hash-requires : tie.Need-hash-requires
-hash-requires c κs = row-arguments (c .before .before .before .before .before .before .pre) (c .before .before .if1 .left)
+application-hash-requires : tie.Need-application-hash-requires
+application-hash-requires c κs = row-arguments (c .before .before .before .before .before .before .pre) (c .before .before .if1 .left)
 
 returns-2 : tie.Need-returns-2
-returns-2 c = c .hash .ensures ∙ hash-app (now (c .before .before .before .before .before .before .before .args .rows)) (now (c .before .before .before .before .before .before .before .args .classes)) (c .before .before .before .before .before .before .before .args .t) (c .before .before .before .if1 .left)
+returns-2 c = c .application-hash .ensures ∙ hash-app (now (c .before .before .before .before .before .before .before .args .rows)) (now (c .before .before .before .before .before .before .before .args .classes)) (c .before .before .before .before .before .before .before .args .t) (c .before .before .before .if1 .left)
 
 pub key-hash-spec : {M : Type 1} → statement M
 key-hash-spec =
@@ -68,9 +68,9 @@ key-hash-spec =
     shared-slice-read-end
     cast-end
     add-end-2
-    mul-hash
-    sub-hash
-    part-hash-start
-    part-hash-end
-    hash-requires
+    mul-application-hash
+    sub-application-hash
+    part-application-hash-start
+    part-application-hash-end
+    application-hash-requires
     returns-2)

@@ -1,4 +1,4 @@
--- `names::hash` meets its contract: the hash goes on from `h` over the classes of the arguments from `j` on. The measure is the
+-- `names::application_hash` meets its contract: the hash goes on from `h` over the classes of the arguments from `j` on. The measure is the
 -- arguments that are left. Assumes nothing.
 use mathlib.Core.Path.{_≡_, refl, ap, sym, _∙_}
 use mathlib.Core.List.{map}
@@ -10,8 +10,8 @@ use denote.Ref.{now}
 use Rattle.layout.specs.limits.Rows.{at}
 use Rattle.values.specs.names.Keys.{hashFrom}
 use Rattle.values.proofs.names.Keys.{hash-more, hash-none}
-use Rattle.values.proofs.names.hash.Statement.{statement}
-use Rattle.values.proofs.names.hash.Tie as tie
+use Rattle.values.proofs.names.application_hash.Statement.{statement}
+use Rattle.values.proofs.names.application_hash.Tie as tie
 
 abbrev Inv-loop : tie.InvT-loop
 Inv-loop symbol args classes h₀ j₀ h j = hashFrom h (map (at classes) (drop j args)) ≡ hashFrom symbol (map (at classes) args)
@@ -56,8 +56,8 @@ loop-again c =
 returns : tie.Need-returns Inv-loop μ-loop
 returns c = sym (hash-none (at (now (c .before .before .before .before .args .classes))) _ _ _ (c .loop-test .left)) ∙ c .before .loop .inv
 
-pub hash-spec : {M : Type 1} → statement M
-hash-spec =
+pub application-hash-spec : {M : Type 1} → statement M
+application-hash-spec =
     tie.close
     (tie.spec
     Inv-loop

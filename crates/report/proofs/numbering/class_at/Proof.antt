@@ -1,8 +1,8 @@
--- `numbering::class_of` meets its contract: the class of a row is its last word. Assumes nothing.
+-- `numbering::class_at` meets its contract: the class of a row is its last word. Assumes nothing.
 use Rattle.report.proofs.numbering.Rows.{row-class}
 use borrow.Author.Needs.{needs}
-use Rattle.report.proofs.numbering.class_of.Statement.{statement}
-use Rattle.report.proofs.numbering.class_of.Tie as tie
+use Rattle.report.proofs.numbering.class_at.Statement.{statement}
+use Rattle.report.proofs.numbering.class_at.Tie as tie
 
 mul-result : tie.Need-mul-result
 mul-result c = search needs
@@ -22,7 +22,7 @@ shared-slice-read-result c = search needs
 returns : tie.Need-returns
 returns c = row-class _ _
 
-pub class-of-spec : {M : Type 1} → statement M
-class-of-spec =
+pub class-at-spec : {M : Type 1} → statement M
+class-at-spec =
     tie.close
     (tie.spec mul-result add-result sub-result mul-result-2 shared-slice-read-result returns)

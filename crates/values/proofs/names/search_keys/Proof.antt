@@ -1,4 +1,4 @@
--- `names::search` meets its contract: no term before place `j` has the key. The measure is the places that are left. Assumes
+-- `names::search_keys` meets its contract: no term before place `j` has the key. The measure is the places that are left. Assumes
 -- nothing.
 use mathlib.Core.Path.{_≡_}
 use Prim.Native.Nat.{ℕ, _-_, _≤_, _<_}
@@ -8,8 +8,8 @@ use borrow.Author.Count.{below-more}
 use Rattle.layout.specs.limits.Rows.{at}
 use Rattle.values.specs.names.Keys.{keyAt}
 use Rattle.values.proofs.names.Keys.{test-same, test-other, found-at, found-none}
-use Rattle.values.proofs.names.search.Statement.{statement}
-use Rattle.values.proofs.names.search.Tie as tie
+use Rattle.values.proofs.names.search_keys.Statement.{statement}
+use Rattle.values.proofs.names.search_keys.Tie as tie
 
 abbrev Inv-loop : tie.InvT-loop
 Inv-loop rows classes list k t j₀ j = (j ≤ k) × ((i : ℕ) → i < j → keyAt rows classes t ≡ keyAt rows classes (at list i) → ⊥)
@@ -44,8 +44,8 @@ loop-again c = (omega (arith, c .before .before .before .loop-test .taken), belo
 returns-2 : tie.Need-returns-2 Inv-loop μ-loop
 returns-2 c = found-none (λ i l. c .before .loop .inv .1 i (omega (arith, l, c .loop-test .left)))
 
-pub search-spec : {M : Type 1} → statement M
-search-spec =
+pub search-keys-spec : {M : Type 1} → statement M
+search-keys-spec =
     tie.close
     (tie.spec
     Inv-loop

@@ -1,10 +1,10 @@
--- `turns::turn` meets its contract: a report that is kept, a report that is made, another step (proofs/turns/Turning.antt). Assumes nothing.
+-- `turns::take_turn` meets its contract: a report that is kept, a report that is made, another step (proofs/turns/Turning.antt). Assumes nothing.
 use mathlib.Core.Path.{_∙_}
 use borrow.Author.Needs.{needs}
 use denote.Ref.{now}
 use Rattle.printing.proofs.turns.Turning.{report-kept, report-made, step-taken, step-refused}
-use Rattle.printing.proofs.turns.turn.Statement.{statement}
-use Rattle.printing.proofs.turns.turn.Tie as tie
+use Rattle.printing.proofs.turns.take_turn.Statement.{statement}
+use Rattle.printing.proofs.turns.take_turn.Tie as tie
 
 returns : tie.Need-returns
 returns c =
@@ -46,8 +46,8 @@ returns-5 c =
     let start = step .before .before .before .before .before .before .before .before .before .before in
     step-taken _ _ _ _ (step .step-at2 .ensures) _ _ _ (line .line2 .ensures) _ (gone .goes-on .ensures) (now (start .args .report))
 
-pub turn-spec : {M : Type 1} → statement M
-turn-spec =
+pub take-turn-spec : {M : Type 1} → statement M
+take-turn-spec =
     tie.close
     (tie.spec
     (λ c κs. search needs)

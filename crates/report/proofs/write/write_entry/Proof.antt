@@ -1,10 +1,10 @@
--- `write::put_entry` meets its contract: the bytes are those of the entry's numbers. Assumes nothing.
+-- `write::write_entry` meets its contract: the bytes are those of the entry's numbers. Assumes nothing.
 use native.Mathlib.Omega.{arith}
 use Rattle.report.proofs.write.Rows.{within, readable}
 use Rattle.report.proofs.write.Bytes.{run-front, run-laid, row-small}
 use borrow.Author.Needs.{needs}
-use Rattle.report.proofs.write.put_entry.Statement.{statement}
-use Rattle.report.proofs.write.put_entry.Tie as tie
+use Rattle.report.proofs.write.write_entry.Statement.{statement}
+use Rattle.report.proofs.write.write_entry.Tie as tie
 
 entry-numbers-requires : tie.Need-entry-numbers-requires
 entry-numbers-requires c κs =
@@ -32,7 +32,7 @@ returns : tie.Need-returns
 returns c = λ s shown.
     run-laid _ _ _ (c .before .before .before .before .before .before .entry-numbers .ensures .1 s shown) _ _ _ (c .before .before .put-run .ensures)
 
-pub put-entry-spec : {M : Type 1} → statement M
-put-entry-spec =
+pub write-entry-spec : {M : Type 1} → statement M
+write-entry-spec =
     tie.close
     (tie.spec entry-numbers-requires slice-aggregate-put-run put-run-requires same-length returns)

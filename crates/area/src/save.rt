@@ -16,18 +16,18 @@ ghost use Rattle.area.specs.save.Opened.{openedWords};
 pub fn store(
     lim: layout::limits::Limits,
     area: &mut [u8],
-    header: layout::header::Header,
+    h: layout::header::Header,
     rows: &[u32],
     bindings: &[u32],
     lines: &[u32],
     entries: &[u32],
 )
-    requires { ⌜ Modest (limitsOf lim) × Sized (limitsOf lim) (held header (now rows) (now bindings) (now lines) (now entries))
-        × (areaLength (limitsOf lim) (header .capacity) ≤ length (now area)) ⌝ }
+    requires { ⌜ Modest (limitsOf lim) × Sized (limitsOf lim) (held h (now rows) (now bindings) (now lines) (now entries))
+        × (areaLength (limitsOf lim) (h .capacity) ≤ length (now area)) ⌝ }
     ensures { λ _. ⌜ now (area .exit) ≡ over (concatMap (toBytes wordSize)
-        (loadedWords (held header (now (rows .entry)) (now (bindings .entry)) (now (lines .entry)) (now (entries .entry))))) (now (area .entry)) ⌝ }
+        (loadedWords (held h (now (rows .entry)) (now (bindings .entry)) (now (lines .entry)) (now (entries .entry))))) (now (area .entry)) ⌝ }
 {
-    layout::header::store_header(area, header);
+    layout::header::store_header(area, h);
     layout::words::store(area, layout::limits::HEADER_WORDS, rows);
     layout::words::store(area, layout::offsets::bindings_at(lim), bindings);
     layout::words::store(area, layout::offsets::lines_at(lim), lines);

@@ -19,7 +19,7 @@ pub struct Decoding {
 
 // Decodes a book into the rows of as many terms as the limit, which are all zero. After a refusal nothing is promised of the
 // rows.
-pub fn decode(bytes: &[u8], lim: layout::limits::Limits, rows: &mut [u32]) -> Decoding
+pub fn decode(lim: layout::limits::Limits, bytes: &[u8], rows: &mut [u32]) -> Decoding
     requires { ⌜ Modest (limitsOf lim) × (now rows ≡ replicate (termWords * lim .terms) 0) ⌝ }
     ensures refusal { λ r. ⌜ r .refusal ≡ decodedRefusal (parseBook (limitsOf lim) (now (bytes .entry))) ⌝ }
     ensures terms { λ r. ⌜ r .terms ≡ length (decodedBook (parseBook (limitsOf lim) (now (bytes .entry)))) ⌝ }

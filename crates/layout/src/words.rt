@@ -8,14 +8,14 @@ ghost use Rattle.model.specs.Area.{wordSize, fromBytes, toBytes, wordsAt};
 ghost use Rattle.layout.specs.words.Words.{laid, cleared};
 
 // The word whose lowest byte stands at byte `at`.
-pub fn word_at(s: &[u8], at: usize) -> u32
-    requires { ⌜ at + wordSize ≤ length (now s) ⌝ }
-    ensures { λ r. ⌜ r ≡ fromBytes (take wordSize (drop at (now (s .entry)))) ⌝ }
+pub fn word_at(area: &[u8], at: usize) -> u32
+    requires { ⌜ at + wordSize ≤ length (now area) ⌝ }
+    ensures { λ r. ⌜ r ≡ fromBytes (take wordSize (drop at (now (area .entry)))) ⌝ }
 {
-    let a = s[at] as u32;
-    let b = s[at + 1] as u32;
-    let c = s[at + 2] as u32;
-    let d = s[at + 3] as u32;
+    let a = area[at] as u32;
+    let b = area[at + 1] as u32;
+    let c = area[at + 2] as u32;
+    let d = area[at + 3] as u32;
     a + 256 * b + 65536 * c + 16777216 * d
 }
 

@@ -32,7 +32,7 @@ pub fn copy_book(book: &[u8], out: &mut [u8], written: &mut u32) -> u32
     ensures { λ r. ⌜ Writes (callCopy office (now (book .entry)) (now (out .entry))) r (now (written .exit)) (now (out .exit)) ⌝ }
 {
     let mut rows = [0u32; layout::limits::ROWS];
-    let decoded = book::decode::decode(book, layout::limits::OFFICE, &mut rows);
+    let decoded = book::decode::decode(layout::limits::OFFICE, book, &mut rows);
     let refusal = decoded.refusal;
     if refusal != 0 {
         *written = 0;

@@ -32,7 +32,7 @@ pub fn open(capacity: u32, book: &[u8], area: &mut [u8]) -> u32
         return 7;
     }
     let mut rows = [0u32; layout::limits::ROWS];
-    let decoded = book::decode::decode(book, layout::limits::OFFICE, &mut rows);
+    let decoded = book::decode::decode(layout::limits::OFFICE, book, &mut rows);
     let refusal = decoded.refusal;
     if refusal != 0 {
         return refusal;

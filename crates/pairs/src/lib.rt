@@ -25,7 +25,7 @@ fn hash(a: u32, b: u32) -> u64
 }
 
 // The first place of (a, b) among the first `count` pairs, or else `count`, the next free place; and the cell where the way ends.
-fn search(a: u32, b: u32, lefts: &[u32], rights: &[u32], cells: &[u32], count: usize) -> Found
+fn search(lefts: &[u32], rights: &[u32], cells: &[u32], count: usize, a: u32, b: u32) -> Found
     requires { ⌜ Indexed (now lefts) (now rights) (now cells) count ⌝ }
     ensures { λ r. ⌜ Searched (now (lefts .entry)) (now (rights .entry)) (now (cells .entry)) count a b r ⌝ }
 {
@@ -53,7 +53,7 @@ pub fn find(lefts: &[u32], rights: &[u32], cells: &[u32], count: usize, a: u32, 
     requires { ⌜ Indexed (now lefts) (now rights) (now cells) count ⌝ }
     ensures { λ r. ⌜ r ≡ placeOf (now (lefts .entry)) (now (rights .entry)) count a b ⌝ }
 {
-    let found = search(a, b, lefts, rights, cells, count);
+    let found = search(lefts, rights, cells, count, a, b);
     found.place
 }
 
@@ -70,7 +70,7 @@ pub fn push(
     requires room { ⌜ Room (now lefts) (now rights) (now cells) (suc count) ⌝ }
     ensures { λ r. ⌜ Pushed (now (lefts .entry)) (now (rights .entry)) (now (lefts .exit)) (now (rights .exit)) (now (cells .exit)) count a b r ⌝ }
 {
-    let found = search(a, b, lefts, rights, cells, count);
+    let found = search(lefts, rights, cells, count, a, b);
     lefts[count] = a;
     rights[count] = b;
     let own = BUCKETS + 2 * count;

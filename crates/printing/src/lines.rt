@@ -11,15 +11,15 @@ use session::steps::Reply;
 use step::answer::StepAnswer;
 
 // Writes the line of an opening to the front of `text`, and gives its length.
-pub fn opening(answer: Begun, text: &mut [u8]) -> usize
+pub fn opening(begun: Begun, text: &mut [u8]) -> usize
     requires { ⌜ lineMost 0 0 ≤ length (now text) ⌝ }
-    ensures count { λ r. ⌜ r ≡ length (lineText (openingLine answer)) ⌝ }
-    ensures bytes { λ r. ⌜ now (text .exit) ≡ lineText (openingLine answer) ++ drop r (now (text .entry)) ⌝ }
+    ensures count { λ r. ⌜ r ≡ length (lineText (openingLine begun)) ⌝ }
+    ensures bytes { λ r. ⌜ now (text .exit) ≡ lineText (openingLine begun) ++ drop r (now (text .entry)) ⌝ }
 {
     let none = [0u32; 0];
-    match answer {
-        Begun::Refused(n) => session::text::put_line(text, n, &none),
-        Begun::At(at) => session::text::put_line(text, 0, &none),
+    match begun {
+        Begun::Refused(n) => session::text::put_line(n, &none, text),
+        Begun::At(at) => session::text::put_line(0, &none, text),
     }
 }
 
@@ -32,37 +32,37 @@ fn answer_line(answer: StepAnswer, text: &mut [u8]) -> usize
     match answer {
         StepAnswer::Refused(n) => {
             let none = [0u32; 0];
-            session::text::put_line(text, n, &none)
+            session::text::put_line(n, &none, text)
         }
         StepAnswer::Added(entry) => {
             let numbers = [entry];
-            session::text::put_line(text, 0, &numbers)
+            session::text::put_line(0, &numbers, text)
         }
         StepAnswer::Bound(turned, appended) => {
             let numbers = [turned, appended];
-            session::text::put_line(text, 0, &numbers)
+            session::text::put_line(0, &numbers, text)
         }
     }
 }
 
 // Writes the line that a step prints, if any, to the front of `text`, and gives its length. `out` is the output that the step left.
-pub fn line(answer: Reply, out: &[u8], text: &mut [u8]) -> usize
+pub fn line(reply: Reply, out: &[u8], text: &mut [u8]) -> usize
     requires { ⌜ lineMost 2 (length (now out)) ≤ length (now text) ⌝ }
-    ensures count { λ r. ⌜ r ≡ length (linesText (lines answer (now (out .entry)))) ⌝ }
-    ensures bytes { λ r. ⌜ now (text .exit) ≡ linesText (lines answer (now (out .entry))) ++ drop r (now (text .entry)) ⌝ }
+    ensures count { λ r. ⌜ r ≡ length (linesText (lines reply (now (out .entry)))) ⌝ }
+    ensures bytes { λ r. ⌜ now (text .exit) ≡ linesText (lines reply (now (out .entry))) ++ drop r (now (text .entry)) ⌝ }
 {
     let none = [0u32; 0];
-    match answer {
+    match reply {
         Reply::Ended => 0,
-        Reply::Stopped(n) => session::text::put_line(text, n, &none),
-        Reply::Answered { answer: step, next } => answer_line(step, text),
-        Reply::NotReported { refusal, next } => session::text::put_line(text, refusal, &none),
+        Reply::Stopped(n) => session::text::put_line(n, &none, text),
+        Reply::Answered { answer, next } => answer_line(answer, text),
+        Reply::NotReported { refusal, next } => session::text::put_line(refusal, &none, text),
         Reply::Reported { length, next } => {
             let size = length as usize;
             if out.len() < size {
-                session::text::put_report(text, out)
+                session::text::put_report(out, text)
             } else {
-                session::text::put_report(text, &out[..size])
+                session::text::put_report(&out[..size], text)
             }
         }
     }

@@ -21,13 +21,13 @@ pub struct Printout {
 }
 
 // The position at which the session goes on after an answer, and `over` where it is over.
-fn goes_on(answer: Reply, over: usize) -> usize
-    ensures { λ r. ⌜ r ≡ nextOr over answer ⌝ }
+fn goes_on(reply: Reply, over: usize) -> usize
+    ensures { λ r. ⌜ r ≡ nextOr over reply ⌝ }
 {
-    match answer {
+    match reply {
         Reply::Ended => over,
         Reply::Stopped(n) => over,
-        Reply::Answered { answer: step, next } => next,
+        Reply::Answered { answer, next } => next,
         Reply::NotReported { refusal, next } => next,
         Reply::Reported { length, next } => next,
     }
@@ -62,8 +62,8 @@ pub fn take_turn(
                 kept: n,
             };
         }
-        let answer = session::steps::step_at(input, at, area, out);
-        let size = crate::lines::line(answer, out, report);
+        let reply = session::steps::step_at(input, at, area, out);
+        let size = crate::lines::line(reply, out, report);
         return Printout {
             next,
             size,
@@ -71,14 +71,14 @@ pub fn take_turn(
             kept: size,
         };
     }
-    let answer = session::steps::step_at(input, at, area, out);
-    let size = crate::lines::line(answer, out, text);
-    let next = goes_on(answer, input.len());
+    let reply = session::steps::step_at(input, at, area, out);
+    let size = crate::lines::line(reply, out, text);
+    let next = goes_on(reply, input.len());
     if let Reply::Answered {
-        answer: step,
+        answer,
         next: after,
-    } = answer {
-        if step::answer::refusal_number(step) != 0 {
+    } = reply {
+        if step::answer::refusal_number(answer) != 0 {
             return Printout {
                 next,
                 size,

@@ -33,7 +33,7 @@ fn put_spaced(text: &mut [u8], at: usize, n: u32) -> usize
 }
 
 // Writes the line of `first` and the numbers behind it to the front of `text`, and gives its length.
-pub fn put_line(text: &mut [u8], first: u32, others: &[u32]) -> usize
+pub fn put_line(first: u32, others: &[u32], text: &mut [u8]) -> usize
     requires { ⌜ lineMost (length (now others)) 0 ≤ length (now text) ⌝ }
     ensures count { λ r. ⌜ r ≡ length (lineText (first ∷ now (others .entry))) ⌝ }
     ensures bytes { λ r. ⌜ now (text .exit) ≡ lineText (first ∷ now (others .entry)) ++ drop r (now (text .entry)) ⌝ }
@@ -48,7 +48,7 @@ pub fn put_line(text: &mut [u8], first: u32, others: &[u32]) -> usize
 }
 
 // Writes the line of 0 and the numbers that `bytes` hold to the front of `text`, and gives its length.
-pub fn put_report(text: &mut [u8], bytes: &[u8]) -> usize
+pub fn put_report(bytes: &[u8], text: &mut [u8]) -> usize
     requires { ⌜ lineMost 1 (length (now bytes)) ≤ length (now text) ⌝ }
     ensures count { λ r. ⌜ r ≡ length (lineText (0 ∷ numbersIn (now (bytes .entry)))) ⌝ }
     ensures bytes { λ r. ⌜ now (text .exit) ≡ lineText (0 ∷ numbersIn (now (bytes .entry))) ++ drop r (now (text .entry)) ⌝ }

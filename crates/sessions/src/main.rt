@@ -38,8 +38,8 @@ fn print(t: Printout, report: &[u8], text: &[u8]) -> bool
 // All steps from position `first` on, until the session is over or a line cannot be printed.
 fn steps(
     input: &[u8],
-    area: &mut [u8],
     first: usize,
+    area: &mut [u8],
     out: &mut [u8],
     report: &mut [u8],
     text: &mut [u8],
@@ -72,7 +72,7 @@ fn run(input: &[u8]) {
     let mut report = [0u8; LINE];
     match begun {
         Begun::Refused(refusal) => return,
-        Begun::At(first) => steps(input, &mut area, first, &mut out, &mut report, &mut text),
+        Begun::At(first) => steps(input, first, &mut area, &mut out, &mut report, &mut text),
     }
 }
 

@@ -90,18 +90,18 @@ fn kind_fits(
     }
     let right = TERM_WORDS * r;
     let args = kind + 3;
-    let ls = left + 2;
-    let rs = right + 2;
+    let left_args = left + 2;
+    let right_args = right + 2;
     let args_end = args + entries[kind + 2] as usize;
-    let ls_end = ls + rows[left + 1] as usize;
-    let rs_end = rs + rows[right + 1] as usize;
+    let left_end = left_args + rows[left + 1] as usize;
+    let right_end = right_args + rows[right + 1] as usize;
     arguments_ok(
         names,
         entries,
         m,
         &entries[args..args_end],
-        &rows[ls..ls_end],
-        &rows[rs..rs_end],
+        &rows[left_args..left_end],
+        &rows[right_args..right_end],
     )
 }
 

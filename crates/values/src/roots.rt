@@ -1,5 +1,5 @@
 // What each term stands for, and whether a variable occurs in a value: plain loops along a list of terms in which all that a
-// value is made of comes first (module `order`, specs/Order.antt).
+// value is made of comes first (module `order`, specs/order/Order.antt).
 
 ghost use mathlib.Core.Path.{_≡_};
 ghost use mathlib.Core.List.{_++_, map};

@@ -4,4 +4,4 @@ use Rattle.fit.proofs.fit_report.Statement.{statement}
 use Rattle.fit.proofs.fit_report.Tie as tie
 
 pub fit-report-spec : {M : Type 1} → statement M
-fit-report-spec = tie.close (tie.spec (λ c κs. search needs) (λ c. search needs) (λ c. c .before .before .report .ensures))
+fit-report-spec = tie.close (tie.spec (λ c κs. search needs) (λ c. search needs) (λ c. search needs))

@@ -11,10 +11,10 @@ use Rattle.pairs.proofs.search.Statement.{statement}
 use Rattle.pairs.proofs.search.Tie as tie
 
 abbrev Inv-loop : tie.InvT-loop
-Inv-loop a b lefts rights cells count mixed way₀ cell₀ link₀ way cell link = Sought lefts rights cells count a b cell way link
+Inv-loop lefts rights cells count a b mixed way₀ cell₀ link₀ way cell link = Sought lefts rights cells count a b cell way link
 
 abbrev μ-loop : tie.MeasureT-loop
-μ-loop a b lefts rights cells count mixed way₀ cell₀ link₀ way cell link = cellsOf count - cell
+μ-loop lefts rights cells count a b mixed way₀ cell₀ link₀ way cell link = cellsOf count - cell
 
 -- the function's entry, from the loop's head
 abbrev start : tie.At-loop Inv-loop μ-loop → tie.Start Inv-loop μ-loop

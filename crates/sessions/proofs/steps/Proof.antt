@@ -14,11 +14,11 @@ use Rattle.sessions.proofs.steps.Statement.{statement}
 use Rattle.sessions.proofs.steps.Tie as tie
 
 abbrev Inv-loop : tie.InvT-loop
-Inv-loop input area₀ first out₀ report₀ text₀ at₀ kept₀ area out report text at kept =
+Inv-loop input first area₀ out₀ report₀ text₀ at₀ kept₀ area out report text at kept =
     (length area ≡ length area₀) × (length out ≡ length out₀) × (length report ≡ length report₀) × (length text ≡ length text₀) × KeptReport area out report kept
 
 abbrev μ-loop : tie.MeasureT-loop
-μ-loop input area₀ first out₀ report₀ text₀ at₀ kept₀ area out report text at kept = length input - at
+μ-loop input first area₀ out₀ report₀ text₀ at₀ kept₀ area out report text at kept = length input - at
 
 -- a turn leads behind its position, so less is left
 less-left : (input area out : List ℕ) (at next : ℕ) → at < length input → next ≡ nextOr (length input) (stepAt input area out at .answer)

@@ -11,7 +11,7 @@ use Rattle.layout.proofs.words.word_at.Tie as tie
 -- the four bytes are below 256
 bytes : (c : tie.After-shared-slice-known4)
     → let a = c .before .before .before .before .args in
-    let s = now (a .s) in
+    let s = now (a .area) in
     (getD s (a .at) 0 < 256) × (getD s (a .at + 1) 0 < 256) × (getD s (a .at + 2) 0 < 256) × (getD s (a .at + 3) 0 < 256)
 bytes c =
     let g = c .shared-slice-known4 .given in
@@ -72,7 +72,7 @@ add-result-3 c = omega (arith, bytes c)
 returns : tie.Need-returns
 returns c =
     let a = c .before .before .before .before .args in
-    word-of (now (a .s)) (a .at) (omega arith)
+    word-of (now (a .area)) (a .at) (omega arith)
 
 pub word-at-spec : {M : Type 1} → statement M
 word-at-spec =

@@ -14,22 +14,22 @@ returns c = prints-none _ _ (c .enum-told .given .1)
 
 returns-2 : tie.Need-returns-2
 unfolding lines
-returns-2 c = let put = c .before .before in prints _ _ _ _ (put .before .before .before .before .answer .given .1) refl (put .put-line .ensures)
+returns-2 c = let put = c .before .before in prints _ _ _ _ (put .before .before .before .before .reply .given .1) refl (put .put-line .ensures)
 
 returns-3 : tie.Need-returns-3
 unfolding lines
-returns-3 c = let put = c .before .before in prints _ _ _ _ (put .before .before .before .answer2 .given .1) refl (put .answer-line .ensures)
+returns-3 c = let put = c .before .before in prints _ _ _ _ (put .before .before .before .reply2 .given .1) refl (put .answer-line .ensures)
 
 returns-4 : tie.Need-returns-4
 unfolding lines
-returns-4 c = let put = c .before .before in prints _ _ _ _ (put .before .before .before .before .answer3 .given .1) refl (put .put-line2 .ensures)
+returns-4 c = let put = c .before .before in prints _ _ _ _ (put .before .before .before .before .reply3 .given .1) refl (put .put-line2 .ensures)
 
 returns-5 : tie.Need-returns-5
-returns-5 c = let put = c .before .before in prints-all _ _ _ _ (put .before .before .before .before .answer4 .given .1) (omega arith) (put .put-report .ensures)
+returns-5 c = let put = c .before .before in prints-all _ _ _ _ (put .before .before .before .before .reply4 .given .1) (omega arith) (put .put-report .ensures)
 
 returns-6 : tie.Need-returns-6
 unfolding lines
-returns-6 c = let put = c .before .before in prints _ _ _ _ (put .before .before .before .before .before .answer4 .given .1) refl (put .put-report2 .ensures)
+returns-6 c = let put = c .before .before in prints _ _ _ _ (put .before .before .before .before .before .reply4 .given .1) refl (put .put-report2 .ensures)
 
 pub line-spec : {M : Type 1} → statement M
 line-spec =
@@ -47,7 +47,7 @@ line-spec =
     (λ c. search needs)
     (λ c. search needs)
     (λ c κs. search needs)
-    (λ c. sym (length-take-le _ _ (c .before .before .if1 .left)))
+    (λ c. sym (length-take-le _ _ (c .before .if1 .left)))
     (λ c κs. rw length-take (omega arith))
     returns
     (λ c. search needs)

@@ -8,17 +8,17 @@ use Rattle.printing.proofs.turns.goes_on.Tie as tie
 enum-told : tie.Need-enum-told
 enum-told c = search needs
 
-enum-known-answer : tie.Need-enum-known-answer
-enum-known-answer c = search needs
+enum-known-reply : tie.Need-enum-known-reply
+enum-known-reply c = search needs
 
-enum-known-answer-2 : tie.Need-enum-known-answer-2
-enum-known-answer-2 c = search needs
+enum-known-reply-2 : tie.Need-enum-known-reply-2
+enum-known-reply-2 c = search needs
 
-enum-known-answer-3 : tie.Need-enum-known-answer-3
-enum-known-answer-3 c = search needs
+enum-known-reply-3 : tie.Need-enum-known-reply-3
+enum-known-reply-3 c = search needs
 
-enum-known-answer-4 : tie.Need-enum-known-answer-4
-enum-known-answer-4 c = search needs
+enum-known-reply-4 : tie.Need-enum-known-reply-4
+enum-known-reply-4 c = search needs
 
 returns : tie.Need-returns
 unfolding nextOr
@@ -26,29 +26,29 @@ returns c = sym (ap (nextOr _) (c .enum-told .given .1))
 
 returns-2 : tie.Need-returns-2
 unfolding nextOr
-returns-2 c = sym (ap (nextOr _) (c .before .answer .given .1))
+returns-2 c = sym (ap (nextOr _) (c .before .reply .given .1))
 
 returns-3 : tie.Need-returns-3
 unfolding nextOr
-returns-3 c = sym (ap (nextOr _) (c .before .answer2 .given .1))
+returns-3 c = sym (ap (nextOr _) (c .before .reply2 .given .1))
 
 returns-4 : tie.Need-returns-4
 unfolding nextOr
-returns-4 c = sym (ap (nextOr _) (c .before .answer3 .given .1))
+returns-4 c = sym (ap (nextOr _) (c .before .reply3 .given .1))
 
 returns-5 : tie.Need-returns-5
 unfolding nextOr
-returns-5 c = sym (ap (nextOr _) (c .before .answer4 .given .1))
+returns-5 c = sym (ap (nextOr _) (c .before .reply4 .given .1))
 
 pub goes-on-spec : {M : Type 1} → statement M
 goes-on-spec =
     tie.close
     (tie.spec
     enum-told
-    enum-known-answer
-    enum-known-answer-2
-    enum-known-answer-3
-    enum-known-answer-4
+    enum-known-reply
+    enum-known-reply-2
+    enum-known-reply-3
+    enum-known-reply-4
     returns
     returns-2
     returns-3

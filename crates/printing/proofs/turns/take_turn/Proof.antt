@@ -27,7 +27,7 @@ returns-3 c =
     let line = gone .before .before .before in
     let step = line .before .before .before .before .before .before .before in
     let start = step .before .before .before .before .before .before .before .before .before .before in
-    step-refused _ _ _ _ (step .step-at2 .ensures) _ _ _ (line .line2 .ensures) _ (gone .goes-on .ensures) _ (c .before .before .before .answer .given .1)
+    step-refused _ _ _ _ (step .step-at2 .ensures) _ _ _ (line .line2 .ensures) _ (gone .goes-on .ensures) _ (c .before .before .before .reply .given .1)
     (λ e. c .if2 .taken (c .before .refusal-number .ensures ∙ e)) _ (start .pre .1)
 
 returns-4 : tie.Need-returns-4

@@ -14,7 +14,7 @@ abbrev μ-loop : tie.MeasureT-loop
 μ-loop lines entries m met₀ numbers₀ count₀ i₀ met numbers count i = m - i
 
 clear-requires : tie.Need-clear-requires Inv-loop μ-loop
-clear-requires c κs = c .before .before .before .before .before .pre .1 .numbers-fit
+clear-requires c κs = omega (arith, c .before .before .before .before .before .pre .1 .numbers-fit)
 
 meet-all-requires : tie.Need-meet-all-requires Inv-loop μ-loop
 meet-all-requires c κs =

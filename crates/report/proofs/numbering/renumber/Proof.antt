@@ -48,7 +48,7 @@ shared-slice-read-out : tie.Need-shared-slice-read-out Inv-loop μ-loop
 shared-slice-read-out c = omega (arith, marked (c .before))
 
 sub-out : tie.Need-sub-out Inv-loop μ-loop
-sub-out c = rw (c .before .class-at .ensures) (marked (c .before) .marked)
+sub-out c = rw (c .before .class-at .ensures) (omega (arith, marked (c .before) .marked))
 
 mul-out-2 : tie.Need-mul-out-2 Inv-loop μ-loop
 mul-out-2 c = omega (arith, room c)

@@ -9,10 +9,10 @@ use Rattle.session.proofs.text.put_line.Statement.{statement}
 use Rattle.session.proofs.text.put_line.Tie as tie
 
 abbrev Inv-loop : tie.InvT-loop
-Inv-loop text₀ first others at₀ i₀ text at i = Some text₀ at₀ others text at i
+Inv-loop first others text₀ at₀ i₀ text at i = Some text₀ at₀ others text at i
 
 abbrev μ-loop : tie.MeasureT-loop
-μ-loop text₀ first others at₀ i₀ text at i = length others - i
+μ-loop first others text₀ at₀ i₀ text at i = length others - i
 
 put-decimal-requires : tie.Need-put-decimal-requires Inv-loop μ-loop
 put-decimal-requires c κs = omega arith

@@ -72,17 +72,17 @@ cast-args-end c = omega (arith, args-fit (c .before .before .before .before .bef
 add-args-end-2 : tie.Need-add-args-end-2
 add-args-end-2 c = omega (arith, args-fit (c .before .before .before .before .before .before))
 
-cast-ls-end : tie.Need-cast-ls-end
-cast-ls-end c = omega (arith, ls-fit (c .before .before .before .before .before .before .before))
+cast-left-end : tie.Need-cast-left-end
+cast-left-end c = omega (arith, ls-fit (c .before .before .before .before .before .before .before))
 
-add-ls-end-2 : tie.Need-add-ls-end-2
-add-ls-end-2 c = omega (arith, ls-fit (c .before .before .before .before .before .before .before))
+add-left-end-2 : tie.Need-add-left-end-2
+add-left-end-2 c = omega (arith, ls-fit (c .before .before .before .before .before .before .before))
 
-cast-rs-end : tie.Need-cast-rs-end
-cast-rs-end c = omega (arith, rs-fit (c .before .before .before .before .before .before .before .before))
+cast-right-end : tie.Need-cast-right-end
+cast-right-end c = omega (arith, rs-fit (c .before .before .before .before .before .before .before .before))
 
-add-rs-end-2 : tie.Need-add-rs-end-2
-add-rs-end-2 c = omega (arith, rs-fit (c .before .before .before .before .before .before .before .before))
+add-right-end-2 : tie.Need-add-right-end-2
+add-right-end-2 c = omega (arith, rs-fit (c .before .before .before .before .before .before .before .before))
 
 part-arguments-ok-end : tie.Need-part-arguments-ok-end
 part-arguments-ok-end c = omega (arith, args-fit (c .before .before .before .before .before .before .before .before))
@@ -143,13 +143,13 @@ kind-fits-spec =
     (λ c. search needs)
     (λ c. search needs)
     (λ c. search needs)
-    cast-ls-end
-    add-ls-end-2
+    cast-left-end
+    add-left-end-2
     (λ c. search needs)
     (λ c. search needs)
     (λ c. search needs)
-    cast-rs-end
-    add-rs-end-2
+    cast-right-end
+    add-right-end-2
     (λ c. search needs)
     (λ c. search needs)
     (λ c. search needs)

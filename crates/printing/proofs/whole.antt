@@ -1,3 +1,4 @@
 pub mod Progress
 pub mod Steps
 pub mod Theorems
+pub mod Loop

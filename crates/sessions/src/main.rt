@@ -3,11 +3,12 @@
 // the input and the output.
 
 ghost use mathlib.Core.Path.{_≡_};
-ghost use mathlib.Core.Bool.{cond};
+ghost use mathlib.Core.Bool.{true, cond};
 ghost use Prim.Native.Nat.{_≤_};
 ghost use lib.ListN.{length};
 ghost use Rattle.theory.specs.Lengths.{longestSessionReport};
 ghost use Rattle.session.specs.text.Text.{lineMost};
+ghost use Rattle.printing.specs.whole.Loop.{standing, endFrom, sessionEnd};
 use libc::STDIN_FILENO;
 use libc::STDOUT_FILENO;
 use printing::turns::Printout;
@@ -35,6 +36,12 @@ fn print(t: Printout, report: &[u8], text: &[u8]) -> bool
     io::write_all(STDOUT_FILENO, &text[..size])
 }
 
+// Whether every line was printed, and the position at which the session stands.
+struct Progress {
+    printed: bool,
+    at: usize,
+}
+
 // All steps from position `first` on, until the session is over or a line cannot be printed.
 fn steps(
     input: &[u8],
@@ -43,37 +50,62 @@ fn steps(
     out: &mut [u8],
     report: &mut [u8],
     text: &mut [u8],
-)
+) -> Progress
     requires output { ⌜ length (now out) ≡ longestSessionReport ⌝ }
     requires lines { ⌜ (length (now report) ≡ lineMost 2 longestSessionReport) × (length (now text) ≡ lineMost 2 longestSessionReport) ⌝ }
+    ensures { λ r. ⌜ (r .printed ≡ true → standing (r .at) (now (area .exit)) (now (out .exit))
+        ≡ endFrom (now (input .entry)) (standing first (now (area .entry)) (now (out .entry)))) ⌝ }
 {
     let mut at = first;
     let mut kept: usize = 0;
     while at < input.len() {
         let t = printing::turns::take_turn(input, at, area, out, report, kept, text);
         if !print(t, report, text) {
-            return;
+            return Progress { printed: false, at };
         }
         at = t.next;
         kept = t.kept;
     }
+    Progress { printed: true, at }
 }
 
 // The opening, and the steps where it is accepted.
+fn run_session(
+    input: &[u8],
+    area: &mut [u8],
+    out: &mut [u8],
+    report: &mut [u8],
+    text: &mut [u8],
+) -> Progress
+    requires output { ⌜ length (now out) ≡ longestSessionReport ⌝ }
+    requires lines { ⌜ (length (now report) ≡ lineMost 2 longestSessionReport) × (length (now text) ≡ lineMost 2 longestSessionReport) ⌝ }
+    ensures { λ r. ⌜ (r .printed ≡ true → standing (r .at) (now (area .exit)) (now (out .exit))
+        ≡ sessionEnd (now (input .entry)) (now (area .entry)) (now (out .entry))) ⌝ }
+{
+    let begun = session::steps::open(input, area);
+    let n = printing::lines::opening(begun, text);
+    if !io::write_all(STDOUT_FILENO, &text[..n]) {
+        return Progress {
+            printed: false,
+            at: 0,
+        };
+    }
+    match begun {
+        Begun::Refused(refusal) => Progress {
+            printed: true,
+            at: input.len(),
+        },
+        Begun::At(first) => steps(input, first, area, out, report, text),
+    }
+}
+
+// A session in buffers of its own.
 fn run(input: &[u8]) {
     let mut area = [0u8; AREA];
-    let mut text = [0u8; LINE];
-    let begun = session::steps::open(input, &mut area);
-    let n = printing::lines::opening(begun, &mut text);
-    if !io::write_all(STDOUT_FILENO, &text[..n]) {
-        return;
-    }
     let mut out = [0u8; REPORT];
     let mut report = [0u8; LINE];
-    match begun {
-        Begun::Refused(refusal) => return,
-        Begun::At(first) => steps(input, first, &mut area, &mut out, &mut report, &mut text),
-    }
+    let mut text = [0u8; LINE];
+    let ended = run_session(input, &mut area, &mut out, &mut report, &mut text);
 }
 
 fn main() {

@@ -83,3 +83,8 @@ nextOr over (Stopped n) = over
 nextOr over (Answered a next) = next
 nextOr over (NotReported n next) = next
 nextOr over (Reported n next) = next
+
+-- The position of the first step after an opening, and `over` where it was refused.
+unfoldable pub firstOr : ℕ → Begun → ℕ
+firstOr over (NotBegun n) = over
+firstOr over (At at) = at

@@ -1,11 +1,11 @@
-// The line that an opening or a step prints (specs/lines/Lines.antt), as text at the front of a buffer (crate session).
+// The line that an opening or a step prints (crate session, specs/steps/Lines.antt), as text at the front of a buffer.
 
 ghost use mathlib.Core.Path.{_≡_};
 ghost use mathlib.Core.List.{_++_};
 ghost use Prim.Native.Nat.{_≤_};
 ghost use lib.ListN.{length, drop};
 ghost use Rattle.session.specs.text.Text.{lineText, linesText, lineMost};
-ghost use Rattle.printing.specs.lines.Lines.{openingLine, answerLine, lines};
+ghost use Rattle.session.specs.steps.Lines.{openingLine, answerLine, lines};
 use session::steps::Begun;
 use session::steps::Reply;
 use step::answer::StepAnswer;

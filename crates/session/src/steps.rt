@@ -1,12 +1,15 @@
-// A session over lent bytes: opening it, and one step of it (specs/steps/Effects.antt; docs/SPEC.md, "Sessions").
+// A session over lent bytes: opening it, and one step of it (specs/steps/; docs/SPEC.md, "Sessions").
 
 ghost use mathlib.Core.Path.{_≡_};
+ghost use mathlib.Core.List.{[], _∷_};
 ghost use Prim.Native.Nat.{_≤_};
 ghost use lib.ListN.{length};
 ghost use Rattle.leb128.specs.declared.Decoded.the-variants.{Number};
 ghost use Rattle.model.specs.Limits.{office};
 ghost use Rattle.model.specs.Call.{callReport};
+ghost use Rattle.session.specs.command.Commands.{commandAt};
 ghost use Rattle.session.specs.steps.Effects.{openBook, start, reportedBy, stepAt};
+ghost use Rattle.session.specs.steps.Lines.{openingLine, lines, startRefusal, commandLines};
 use crate::command::Command;
 use step::answer::StepAnswer;
 
@@ -39,6 +42,7 @@ pub enum Reply {
 pub fn open(input: &[u8], area: &mut [u8]) -> Begun
     ensures answer { λ r. ⌜ r ≡ start (now (input .entry)) (now (area .entry)) .answer ⌝ }
     ensures area { λ r. ⌜ now (area .exit) ≡ start (now (input .entry)) (now (area .entry)) .area ⌝ }
+    ensures numbers { λ r. ⌜ openingLine r ≡ startRefusal (now (input .entry)) (now (area .entry)) ∷ [] ⌝ }
 {
     if LONGEST < input.len() {
         return Begun::Refused(4);
@@ -85,6 +89,7 @@ pub fn step_at(input: &[u8], at: usize, area: &mut [u8], out: &mut [u8]) -> Repl
     ensures answer { λ s. ⌜ s ≡ stepAt (now (input .entry)) (now (area .entry)) (now (out .entry)) at .answer ⌝ }
     ensures area { λ s. ⌜ now (area .exit) ≡ stepAt (now (input .entry)) (now (area .entry)) (now (out .entry)) at .area ⌝ }
     ensures output { λ s. ⌜ now (out .exit) ≡ stepAt (now (input .entry)) (now (area .entry)) (now (out .entry)) at .output ⌝ }
+    ensures numbers { λ s. ⌜ lines s (now (out .exit)) ≡ commandLines (now (area .entry)) (now (out .entry)) (commandAt (now (input .entry)) at) ⌝ }
 {
     match crate::command::command_at(input, at) {
         Command::Ended => Reply::Ended,

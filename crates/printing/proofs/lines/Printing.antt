@@ -10,7 +10,7 @@ use Rattle.session.specs.text.Text.{lineText, linesText, numbersIn}
 use Rattle.session.specs.declared.steps.Begun.{Begun}
 use Rattle.session.specs.declared.steps.Reply.{Reply}
 use Rattle.session.specs.declared.steps.Reply.the-variants.{Ended, Reported}
-use Rattle.printing.specs.lines.Lines.{openingLine, lines}
+use Rattle.session.specs.steps.Lines.{openingLine, lines}
 
 -- The bytes stand at the front of `text`, which gives `end`, and r is their length.
 abbrev Front : List ℕ → List ℕ → ℕ → List ℕ → Type 0

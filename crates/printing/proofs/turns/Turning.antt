@@ -25,7 +25,7 @@ use Rattle.session.specs.declared.steps.Reply.{Reply}
 use Rattle.session.specs.declared.steps.Reply.the-variants.{Ended, Stopped, Answered, NotReported, Reported}
 use Rattle.session.specs.steps.Effects.{Effect, still, perform, reportedBy, stepAt, nextOr}
 use Rattle.session.proofs.steps.Stepping.{by-command, Takes}
-use Rattle.printing.specs.lines.Lines.{lines}
+use Rattle.session.specs.steps.Lines.{lines}
 use Rattle.printing.specs.turns.Turns.{printed, Front, KeptReport}
 use Rattle.printing.proofs.turns.Again.{report-again}
 

@@ -17,7 +17,7 @@ use Rattle.session.specs.declared.steps.Reply.{Reply}
 use Rattle.session.specs.declared.steps.Reply.the-variants.{Ended, Stopped, Answered, NotReported, Reported}
 use Rattle.session.specs.text.Text.{lineText, linesText}
 use Rattle.session.specs.steps.Effects.{Start, Effect, start, stepAt, nextOr, firstOr}
-use Rattle.printing.specs.lines.Lines.{openingLine, lines}
+use Rattle.session.specs.steps.Lines.{openingLine, lines}
 use Rattle.printing.specs.turns.Turns.{printed}
 use Rattle.printing.specs.whole.Whole.{onward, afterOpening, stepsFrom, allSteps, sessionOnBytes}
 use Rattle.printing.specs.whole.Loop.{Standing, stepFrom, turn, turns, turnsText, endFrom, textFrom, opened, sessionText, TurnByTurn, TextOfSession}

@@ -17,7 +17,7 @@ use Rattle.session.proofs.command.Progress.{commands-go-on}
 use Rattle.session.specs.declared.steps.Reply.{Reply}
 use Rattle.session.specs.declared.steps.Reply.the-variants.{Ended, Stopped, Answered, NotReported, Reported}
 use Rattle.session.specs.steps.Effects.{still, perform, reportedBy, stepAt, nextOr}
-use Rattle.printing.specs.lines.Lines.{lines}
+use Rattle.session.specs.steps.Lines.{lines}
 use Rattle.printing.specs.whole.Whole.{Onward, onward, stepsFrom, allSteps, OneByOne, StepsGoOn}
 
 module _ (p n : ℕ) where

@@ -34,12 +34,13 @@ use Rattle.step.specs.answer.Stepped.{acceptedAs}
 use Rattle.calls.specs.Called.{callStep, answerTo}
 use Rattle.session.specs.text.Text.{numbersIn}
 use Rattle.session.proofs.text.Numbers.{numbers-in}
+use Rattle.session.proofs.steps.Lines.{one-number, two-numbers}
 use Rattle.session.specs.declared.command.Command.{Command}
 use Rattle.session.specs.declared.command.Command.the-variants.{Take, Report}
 use Rattle.session.specs.command.Commands.{orStopped, withNumber, withTwo, byNumber, commandAt}
 use Rattle.session.specs.declared.steps.Reply.the-variants.{Answered}
 use Rattle.session.specs.steps.Effects.{Effect, still, perform, reportedBy, stepAt}
-use Rattle.printing.specs.lines.Lines.{answerLine, lines}
+use Rattle.session.specs.steps.Lines.{answerLine, lines}
 use Rattle.printing.specs.whole.Whole.{onward, stepsFrom}
 use Rattle.printing.proofs.whole.Progress.{past-end}
 
@@ -48,16 +49,6 @@ pub record Carries (s : State) (area out : List ℕ) : Type 0 where
   pub lives : Lives office s area
   pub capacity : s .capacity ≡ sessionCapacity
   pub room : longestSessionReport ≤ length out
-
--- lists of one and of two numbers
-one-number : (ns : List ℕ) → length ns ≡ 1 → getD ns 0 0 ∷ [] ≡ ns
-one-number [] h = absurd (omega arith)
-one-number (n ∷ []) h = refl
-one-number (n ∷ m ∷ ns) h = absurd (omega arith)
-
-two-numbers : (ns : List ℕ) → length ns ≡ 2 → getD ns 0 0 ∷ getD ns 1 0 ∷ [] ≡ ns
-two-numbers [] h = absurd (omega arith)
-two-numbers (n ∷ ns) h = ap (λ xs. n ∷ xs) (one-number ns (omega arith))
 
 -- an accepted step's numbers
 stepped-numbers : (count : ℕ) (area ns : List ℕ) (a : Answer) (s : State) → a ≡ accepted ns s → stepped office count area a .numbers ≡ ns

@@ -27,7 +27,7 @@ use Rattle.theory.proofs.Book.Round.{opened-sound}
 use Rattle.theory.proofs.Book.Opening.{book-positive}
 use Rattle.book.proofs.reader.Below.{numberOf as readOf, number-read}
 use Rattle.session.specs.steps.Effects.{Start, notBegun, begun, openBook, start}
-use Rattle.printing.specs.lines.Lines.{openingLine}
+use Rattle.session.specs.steps.Lines.{openingLine}
 use Rattle.printing.specs.whole.Whole.{afterOpening, allSteps, sessionOnBytes, SessionOnBytes}
 use Rattle.printing.proofs.whole.Progress.{steps-enough}
 use Rattle.printing.proofs.whole.Steps.{Carries, same-steps}

@@ -7,7 +7,7 @@ use lib.ListN.{length, take}
 use Rattle.session.specs.declared.command.Command.the-variants.{Report}
 use Rattle.session.specs.text.Text.{linesText}
 use Rattle.session.specs.steps.Effects.{Effect, perform}
-use Rattle.printing.specs.lines.Lines.{lines}
+use Rattle.session.specs.steps.Lines.{lines}
 
 -- The text that a step prints.
 unfoldable pub printed : Effect → List ℕ

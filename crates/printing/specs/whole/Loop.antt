@@ -12,7 +12,7 @@ use Rattle.model.specs.Session.{session}
 use Rattle.theory.specs.Lengths.{longestSessionReport}
 use Rattle.session.specs.text.Text.{lineText, linesText}
 use Rattle.session.specs.steps.Effects.{Effect, start, stepAt, nextOr, firstOr}
-use Rattle.printing.specs.lines.Lines.{openingLine}
+use Rattle.session.specs.steps.Lines.{openingLine}
 use Rattle.printing.specs.turns.Turns.{printed}
 
 -- Where a session stands between two steps: its position in the input, the area and the output.

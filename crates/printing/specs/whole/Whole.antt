@@ -13,7 +13,7 @@ use Rattle.session.specs.declared.steps.Begun.the-variants.{Refused as NotBegun
 use Rattle.session.specs.declared.steps.Reply.{Reply}
 use Rattle.session.specs.declared.steps.Reply.the-variants.{Ended, Stopped, Answered, NotReported, Reported}
 use Rattle.session.specs.steps.Effects.{start, stepAt}
-use Rattle.printing.specs.lines.Lines.{openingLine, lines}
+use Rattle.session.specs.steps.Lines.{openingLine, lines}
 
 -- What follows an answer, with the position at which the session goes on; nothing where it is over.
 unfoldable pub onward : Reply → (ℕ → Printed) → Printed

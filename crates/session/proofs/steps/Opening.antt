@@ -1,6 +1,6 @@
 -- What opening answers and leaves at each return. Assumes nothing.
-use mathlib.Core.Path.{_≡_, refl, sym, _∙_}
-use mathlib.Core.List.{List}
+use mathlib.Core.Path.{_≡_, refl, ap, sym, _∙_}
+use mathlib.Core.List.{List, [], _∷_}
 use Prim.Native.Nat.{ℕ, _+_, _-_, _≤_, _<_}
 use native.Mathlib.Omega.{arith}
 use lib.ListN.{length, take, drop}
@@ -14,6 +14,8 @@ use Rattle.model.specs.Call.{callOpen}
 use Rattle.session.specs.declared.steps.Begun.{Begun}
 use Rattle.session.specs.declared.steps.Begun.the-variants.{Refused, At}
 use Rattle.session.specs.steps.Effects.{Start, notBegun, begun, openBook, start}
+use Rattle.session.specs.steps.Lines.{openingLine, startRefusal}
+use Rattle.session.proofs.steps.Lines.{start-line}
 
 -- the answer and the area are those of the opening s
 abbrev pub Opens : Begun → List ℕ → Start → Type 0
@@ -60,3 +62,8 @@ module _ (input area : List ℕ) where
   pub opens-by : length input ≤ maxSession → {d d′ : Decoded} → d ≡ readAt maxGroups maxNumber input 0 → d ≡ d′ → (r : Begun) (end : List ℕ)
       → Opens r end (openBook input area d′) → Opens r end (start input area)
   opens-by h {d} {d′} e q r end o = rw (by-length h d′ (sym q ∙ e)) o
+
+  -- and with its line it is all that is promised
+  pub told : {r : Begun} {end : List ℕ} → Opens r end (start input area)
+      → (r ≡ start input area .answer) × ((end ≡ start input area .area) × (openingLine r ≡ startRefusal input area ∷ []))
+  told o = (o .0, (o .1, ap openingLine (o .0) ∙ start-line input area))

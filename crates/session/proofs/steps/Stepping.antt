@@ -15,6 +15,8 @@ use Rattle.session.specs.command.Commands.{commandAt}
 use Rattle.session.specs.declared.steps.Reply.{Reply}
 use Rattle.session.specs.declared.steps.Reply.the-variants.{Answered, NotReported, Reported}
 use Rattle.session.specs.steps.Effects.{Effect, still, perform, reportedBy, stepAt}
+use Rattle.session.specs.steps.Lines.{lines, commandLines}
+use Rattle.session.proofs.steps.Lines.{command-lines}
 
 -- REPORTS. A refused one, and what an accepted one answers.
 module _ (o : Outcome) (next r : ℕ) (e : r ≡ o .refusal) where
@@ -29,6 +31,20 @@ module _ (o : Outcome) (next r : ℕ) (e : r ≡ o .refusal) where
 -- STEPS. The answer, the area and the output are those of the step s.
 abbrev pub Takes : Reply → List ℕ → List ℕ → Effect → Type 0
 Takes r area out s = (r ≡ s .answer) × ((area ≡ s .area) × (out ≡ s .output))
+
+-- and with its lines it is all that is promised
+module _ (input area out : List ℕ) (at : ℕ) where
+  abbrev pub Told : Reply → List ℕ → List ℕ → Type 0
+  Told r area′ out′ =
+      let s = stepAt input area out at in
+      (r ≡ s .answer) × ((area′ ≡ s .area) × ((out′ ≡ s .output) × (lines r out′ ≡ commandLines area out (commandAt input at))))
+
+  pub told : {r : Reply} {area′ out′ : List ℕ} → Takes r area′ out′ (stepAt input area out at) → Told r area′ out′
+  unfolding stepAt
+  told t = (t .0, (t .1 .0, (t .1 .1, rw (t .0, t .1 .1) (command-lines area out (commandAt input at)))))
+
+  pub taken : {r : Reply} {area′ out′ : List ℕ} → Told r area′ out′ → Takes r area′ out′ (stepAt input area out at)
+  taken t = (t .0, (t .1 .0, t .1 .1 .0))
 
 -- by the step that was asked for
 module _ (input area out : List ℕ) (at : ℕ) {q : Command} (e : q ≡ commandAt input at) where

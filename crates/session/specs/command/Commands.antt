@@ -1,6 +1,6 @@
 -- The command at a position of a session's input (document 01, "Sessions"). Definitions, and a statement of what is proved in
 -- proofs/.
-use mathlib.Core.List.{List}
+use mathlib.Core.List.{List, [], _∷_}
 use mathlib.Core.Bool.{cond}
 use Prim.Native.Nat.{ℕ, zero, suc, _<_, _≤_}
 use lib.ListN.{length}
@@ -12,6 +12,15 @@ use Rattle.leb128.specs.declared.Decoded.the-variants.{Number, Cut, Invalid}
 use Rattle.step.specs.declared.answer.Step.the-variants.{Add, Bind}
 use Rattle.session.specs.declared.command.Command.{Command}
 use Rattle.session.specs.declared.command.Command.the-variants.{Ended, Stopped, Take, Report}
+
+-- DOCUMENT 01'S NUMBERS FOR EACH COMMAND, as a session's input has them: 1 l r adds a line, 2 v t fixes a choice, 3 reports. A command
+-- that stops the session has none but its refusal, and the end of the input none at all.
+unfoldable pub commandNumbers : Command → List ℕ
+commandNumbers Ended = []
+commandNumbers (Stopped n) = []
+commandNumbers (Take (Add l r) next) = 1 ∷ l ∷ r ∷ []
+commandNumbers (Take (Bind v t) next) = 2 ∷ v ∷ t ∷ []
+commandNumbers (Report next) = 3 ∷ []
 
 -- What follows a number, with the position after it; where there is none, its refusal stops the session.
 unfoldable pub orStopped : Decoded → (ℕ → ℕ → Command) → Command

@@ -48,14 +48,14 @@ returns-2 : tie.Need-returns-2
 returns-2 c =
     let known = c .before in
     let begins = known .before .before .before .before .before .before .before .before .before .before .before .«open» .ensures in
-    λ e. ends _ _ _ _ (begins .0) (begins .1) (known .begun .given .1)
+    λ e. ends _ _ _ _ (begins .0) (begins .1 .0) (known .begun .given .1)
 
 returns-3 : tie.Need-returns-3
 returns-3 c =
     let taken = c .before .before .before .before .before .before .before .before in
     let known = taken .before .before .before .before .before .before in
     let begins = known .before .before .before .before .before .before .before .before .before .before .before .«open» .ensures in
-    λ e. taken .steps .ensures e ∙ goes-on _ _ _ _ (begins .0) (begins .1) (known .begun2 .given .1)
+    λ e. taken .steps .ensures e ∙ goes-on _ _ _ _ (begins .0) (begins .1 .0) (known .begun2 .given .1)
 
 pub run-session-spec : {M : Type 1} → statement M
 run-session-spec =

@@ -1,7 +1,7 @@
 -- `lines::answer_line` meets its contract: the line of each case (proofs/lines/Printing.antt). Assumes nothing.
 use mathlib.Core.Path.{refl}
 use borrow.Author.Needs.{needs}
-use Rattle.printing.specs.lines.Lines.{answerLine}
+use Rattle.session.specs.steps.Lines.{answerLine}
 use Rattle.printing.proofs.lines.Printing.{line-prints}
 use Rattle.printing.proofs.lines.answer_line.Statement.{statement}
 use Rattle.printing.proofs.lines.answer_line.Tie as tie

@@ -4,7 +4,7 @@ use native.Mathlib.Omega.{arith}
 use borrow.Author.Needs.{needs}
 use lib.ListN.{length-take}
 use lib.Seq.{length-take-le}
-use Rattle.printing.specs.lines.Lines.{lines}
+use Rattle.session.specs.steps.Lines.{lines}
 use Rattle.printing.proofs.lines.Printing.{prints, prints-all, prints-none}
 use Rattle.printing.proofs.lines.line.Statement.{statement}
 use Rattle.printing.proofs.lines.line.Tie as tie

@@ -1,7 +1,7 @@
 -- `lines::opening` meets its contract: the refusal, or 0 (proofs/lines/Printing.antt). Assumes nothing.
 use mathlib.Core.Path.{refl}
 use borrow.Author.Needs.{needs}
-use Rattle.printing.specs.lines.Lines.{openingLine}
+use Rattle.session.specs.steps.Lines.{openingLine}
 use Rattle.printing.proofs.lines.Printing.{line-prints}
 use Rattle.printing.proofs.lines.opening.Statement.{statement}
 use Rattle.printing.proofs.lines.opening.Tie as tie

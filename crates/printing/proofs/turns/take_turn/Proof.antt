@@ -2,6 +2,7 @@
 use mathlib.Core.Path.{_∙_}
 use borrow.Author.Needs.{needs}
 use denote.Ref.{now}
+use Rattle.session.proofs.steps.Stepping.{taken}
 use Rattle.printing.proofs.turns.Turning.{report-kept, report-made, step-taken, step-refused}
 use Rattle.printing.proofs.turns.take_turn.Statement.{statement}
 use Rattle.printing.proofs.turns.take_turn.Tie as tie
@@ -11,14 +12,14 @@ returns c =
     let known = c .before .before in
     let asked = known .before .before in
     let start = asked .before .before .before .before .before .before in
-    report-kept _ _ _ _ (asked .command-at .ensures) (known .command .given .1) _ _ (start .pre .1) (c .if1 .taken)
+    report-kept _ _ _ _ (asked .command-at .ensures .0) (known .command .given .1) _ _ (start .pre .1) (c .if1 .taken)
 
 returns-2 : tie.Need-returns-2
 returns-2 c =
     let line = c .before .before in
     let step = line .before .before .before .before .before .before .before in
     let known = step .before .before .before .before .before in
-    report-made _ _ _ _ (known .before .before .command-at .ensures) (known .command .given .1) _ (step .step-at .ensures) _ _ (line .line .ensures)
+    report-made _ _ _ _ (known .before .before .command-at .ensures .0) (known .command .given .1) _ (taken _ _ _ _ (step .step-at .ensures)) _ _ (line .line .ensures)
 
 -- a step that is refused, one that is taken, and the end of the session
 returns-3 : tie.Need-returns-3
@@ -27,7 +28,7 @@ returns-3 c =
     let line = gone .before .before .before in
     let step = line .before .before .before .before .before .before .before in
     let start = step .before .before .before .before .before .before .before .before .before .before in
-    step-refused _ _ _ _ (step .step-at2 .ensures) _ _ _ (line .line2 .ensures) _ (gone .goes-on .ensures) _ (c .before .before .before .reply .given .1)
+    step-refused _ _ _ _ (taken _ _ _ _ (step .step-at2 .ensures)) _ _ _ (line .line2 .ensures) _ (gone .goes-on .ensures) _ (c .before .before .before .reply .given .1)
     (λ e. c .if2 .taken (c .before .refusal-number .ensures ∙ e)) _ (start .pre .1)
 
 returns-4 : tie.Need-returns-4
@@ -36,7 +37,7 @@ returns-4 c =
     let line = gone .before .before .before in
     let step = line .before .before .before .before .before .before .before in
     let start = step .before .before .before .before .before .before .before .before .before .before in
-    step-taken _ _ _ _ (step .step-at2 .ensures) _ _ _ (line .line2 .ensures) _ (gone .goes-on .ensures) (now (start .args .report))
+    step-taken _ _ _ _ (taken _ _ _ _ (step .step-at2 .ensures)) _ _ _ (line .line2 .ensures) _ (gone .goes-on .ensures) (now (start .args .report))
 
 returns-5 : tie.Need-returns-5
 returns-5 c =
@@ -44,7 +45,7 @@ returns-5 c =
     let line = gone .before .before .before in
     let step = line .before .before .before .before .before .before .before in
     let start = step .before .before .before .before .before .before .before .before .before .before in
-    step-taken _ _ _ _ (step .step-at2 .ensures) _ _ _ (line .line2 .ensures) _ (gone .goes-on .ensures) (now (start .args .report))
+    step-taken _ _ _ _ (taken _ _ _ _ (step .step-at2 .ensures)) _ _ _ (line .line2 .ensures) _ (gone .goes-on .ensures) (now (start .args .report))
 
 pub take-turn-spec : {M : Type 1} → statement M
 take-turn-spec =

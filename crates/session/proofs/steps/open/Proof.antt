@@ -4,12 +4,12 @@ use mathlib.Core.Path.{refl}
 use borrow.Author.Needs.{needs}
 use Rattle.session.proofs.text.Numbers.{number-ahead}
 use Rattle.session.specs.steps.Effects.{openBook, notBegun}
-use Rattle.session.proofs.steps.Opening.{too-long, opens-by}
+use Rattle.session.proofs.steps.Opening.{too-long, opens-by, told}
 use Rattle.session.proofs.steps.open.Statement.{statement}
 use Rattle.session.proofs.steps.open.Tie as tie
 
 returns : tie.Need-returns
-returns c = too-long _ _ (c .if1 .taken)
+returns c = told _ _ (too-long _ _ (c .if1 .taken))
 
 read-requires : tie.Need-read-requires
 read-requires c κs = search needs
@@ -38,15 +38,15 @@ returns-2 : tie.Need-returns-2
 returns-2 c =
     let opened = c .before .before in
     let known = opened .before .before .before in
-    opens-by _ _ (known .before .before .before .if1 .left) (known .before .before .read .ensures .0) (known .value .given .1) _ _ (opened .open-book .ensures)
+    told _ _ (opens-by _ _ (known .before .before .before .if1 .left) (known .before .before .read .ensures .0) (known .value .given .1) _ _ (opened .open-book .ensures))
 
 returns-3 : tie.Need-returns-3
 unfolding openBook notBegun
-returns-3 c = opens-by _ _ (c .before .before .before .if1 .left) (c .before .before .read .ensures .0) (c .enum-told .given .1) _ _ (refl, refl)
+returns-3 c = told _ _ (opens-by _ _ (c .before .before .before .if1 .left) (c .before .before .read .ensures .0) (c .enum-told .given .1) _ _ (refl, refl))
 
 returns-4 : tie.Need-returns-4
 unfolding openBook notBegun
-returns-4 c = opens-by _ _ (c .before .before .before .if1 .left) (c .before .before .read .ensures .0) (c .enum-told2 .given .1) _ _ (refl, refl)
+returns-4 c = told _ _ (opens-by _ _ (c .before .before .before .if1 .left) (c .before .before .read .ensures .0) (c .enum-told2 .given .1) _ _ (refl, refl))
 
 pub open-spec : {M : Type 1} → statement M
 open-spec =

@@ -10,11 +10,11 @@ mod reference;
 mod samples;
 
 use bases::Base;
-use reference::{faults, perform, times, Answer, Call, Fault, Faults, Limits, Random, OFFICE};
+use reference::{faults, first_seed, perform, times, Answer, Call, Fault, Faults, Limits, Random, OFFICE};
 use samples::Tally;
 
 const CASES: u64 = 200_000;
-const FIRST_SEED: u64 = 0xA4EA_0000_0000_0000;
+const SEED: u64 = 0xA4EA_0000_0000_0000;
 const SMALL_BASES: usize = 600;
 /// One case in so many starts from a large area.
 const LARGE_EVERY: u64 = 64;
@@ -171,14 +171,14 @@ fn run_case(seed: u64, small: &[Base], large: &[Base], area: &mut Vec<u8>, copy:
     }
 }
 
-fn run_cases() -> Outcome {
-    let mut random = Random(FIRST_SEED);
+fn run_cases(first: u64) -> Outcome {
+    let mut random = Random(first);
     let small: Vec<Base> = (0..SMALL_BASES).map(|_| bases::small(&mut random)).collect();
     let large = bases::large(&mut random);
     let mut outcome = Outcome::default();
     let (mut area, mut copy) = (Vec::new(), Vec::new());
     for case in 1..=CASES * times() {
-        run_case(FIRST_SEED + case, &small, &large, &mut area, &mut copy, &mut outcome);
+        run_case(first + case, &small, &large, &mut area, &mut copy, &mut outcome);
         if outcome.reading + outcome.writing > 20 {
             break;
         }
@@ -191,8 +191,9 @@ fn main() {
     samples::run(OFFICE, perform, &mut tally);
     samples::run(SMALL_LIMITS, perform, &mut tally);
     samples::layout_example(OFFICE, perform, &mut tally);
-    let Outcome { census, reading, writing } = run_cases();
-    println!("{} areas from seed {FIRST_SEED:#x}", CASES * times());
+    let first = first_seed(SEED);
+    let Outcome { census, reading, writing } = run_cases(first);
+    println!("{} areas from seed {first:#x}", CASES * times());
     census.print();
     println!("reading an entry: {reading} differ; writing the book: {writing} differ");
     tally.test("every fault occurs, and every point as the only one that fails", census.is_complete());

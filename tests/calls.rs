@@ -14,12 +14,12 @@ mod samples;
 
 use bases::Base;
 use census::{Census, Kind, Sight, EVERY_LENGTH};
-use reference::{decode, encode, perform, times, Answer, Call, Random, Term, OFFICE};
+use reference::{decode, encode, first_seed, perform, times, Answer, Call, Random, Term, OFFICE};
 use samples::Tally;
 use std::thread;
 
 const LISTS: u64 = 200_000;
-const FIRST_SEED: u64 = 0xCA11_0000_0000_0000;
+const SEED: u64 = 0xCA11_0000_0000_0000;
 /// The lists are shared out among so many threads, each with a stack that the deepest walk fits in.
 const THREADS: u64 = 2;
 const STACK: usize = 16 << 20;
@@ -393,9 +393,15 @@ fn ordered(random: &mut Random, list: &mut List, second: &mut Twins, census: &mu
     list.done_over(second, census)
 }
 
+/// Opens a book of 1,024 terms at capacity 2,048, which from some seeds no list does.
+fn open_largest(random: &mut Random, census: &mut Census) -> Result<bool, String> {
+    let book = encode(&bases::narrow_book(random, OFFICE.terms));
+    List::new().open(random, OFFICE.capacity, &book, OFFICE.area_length(OFFICE.capacity), census)
+}
+
 /// One list of calls; an error says in what the two differ. The first lists take every large area and then every capacity.
-fn run_list(number: u64, large: &[Base], list: &mut List, second: &mut Twins, census: &mut Census) -> Result<(), String> {
-    let random = &mut Random(FIRST_SEED + number);
+fn run_list(first: u64, number: u64, large: &[Base], list: &mut List, second: &mut Twins, census: &mut Census) -> Result<(), String> {
+    let random = &mut Random(first + number);
     let number = number as usize;
     let mut order_every = ORDER_EVERY;
     if number < large.len() {
@@ -421,13 +427,13 @@ fn run_list(number: u64, large: &[Base], list: &mut List, second: &mut Twins, ce
 }
 
 /// Every list whose number leaves this rest when divided by the number of threads; what was seen, and how many differ.
-fn run_share(rest: u64, large: &[Base]) -> (Census, u64) {
+fn run_share(first: u64, rest: u64, large: &[Base]) -> (Census, u64) {
     let mut census = Census::new();
     let (mut list, mut second) = (List::new(), Twins::new());
     let mut different = 0;
     for number in (rest..LISTS * times()).step_by(THREADS as usize) {
-        if let Err(what) = run_list(number, large, &mut list, &mut second, &mut census) {
-            println!("list {number}, seed {:#x}: {what}", FIRST_SEED + number);
+        if let Err(what) = run_list(first, number, large, &mut list, &mut second, &mut census) {
+            println!("list {number}, seed {:#x}: {what}", first + number);
             different += 1;
         }
         if different > 10 {
@@ -438,11 +444,15 @@ fn run_share(rest: u64, large: &[Base]) -> (Census, u64) {
 }
 
 /// All lists.
-fn run_lists() -> (Census, u64) {
-    let large = &bases::large(&mut Random(FIRST_SEED));
+fn run_lists(first: u64) -> (Census, u64) {
+    let large = &bases::large(&mut Random(first));
     let mut seen = (Census::new(), 0);
+    if let Err(what) = open_largest(&mut Random(first), &mut seen.0) {
+        println!("list of the largest book, seed {first:#x}: {what}");
+        seen.1 = 1;
+    }
     thread::scope(|scope| {
-        let start = |rest| thread::Builder::new().stack_size(STACK).spawn_scoped(scope, move || run_share(rest, large)).unwrap();
+        let start = |rest| thread::Builder::new().stack_size(STACK).spawn_scoped(scope, move || run_share(first, rest, large)).unwrap();
         let shares: Vec<_> = (0..THREADS).map(start).collect();
         for share in shares {
             let (census, different) = share.join().unwrap();
@@ -457,8 +467,9 @@ fn main() {
     let mut tally = Tally::default();
     samples::run(OFFICE, library::perform, &mut tally);
     samples::layout_example(OFFICE, library::perform, &mut tally);
-    let (census, different) = run_lists();
-    println!("{} lists from seed {FIRST_SEED:#x}, {} calls, {different} lists differ", LISTS * times(), census.calls());
+    let first = first_seed(SEED);
+    let (census, different) = run_lists(first);
+    println!("{} lists from seed {first:#x}, {} calls, {different} lists differ", LISTS * times(), census.calls());
     census.print();
     tally.test("each call gives every answer that it can give, and no other", census.has_all_answers());
     tally.test("each call meets damaged areas, unsound and sound", census.has_all_damage());

@@ -6,7 +6,7 @@
 mod bases;
 mod reference;
 
-use reference::{encode, push_number, random_book, session, times, Call, End, Random, Session, Term, LONGEST};
+use reference::{encode, first_seed, push_number, random_book, session, times, Call, End, Random, Session, Term, LONGEST};
 use std::collections::BTreeMap;
 use std::io::{Read, Write};
 use std::process::{Command, Stdio};
@@ -14,7 +14,7 @@ use std::thread;
 use std::time::{Duration, Instant};
 
 const SESSIONS: u64 = 20_000;
-const FIRST_SEED: u64 = 0x5E55_0000_0000_0000;
+const SEED: u64 = 0x5E55_0000_0000_0000;
 /// One session in so many is a long one.
 const LONG_EVERY: u64 = 1_600;
 /// The pieces that the program gets its input in; the first is all at once.
@@ -419,11 +419,11 @@ fn output_closed() -> bool {
 }
 
 /// Every so many of the random sessions, from this one on: what they were, and whether each prints what it has to.
-fn random_sessions(first: u64, every: u64) -> (Census, Vec<bool>) {
+fn random_sessions(seed: u64, first: u64, every: u64) -> (Census, Vec<bool>) {
     let mut census = Census::default();
     let mut same = Vec::new();
     for i in (first..SESSIONS * times()).step_by(every as usize) {
-        let seed = FIRST_SEED + i;
+        let seed = seed + i;
         let input = random_session(seed);
         let session = session(&input);
         census.session(&input, &session);
@@ -445,9 +445,11 @@ fn main() {
         test(compare(&format!("worked {i} byte by byte"), &input, expected, 1, 2));
     }
     test(output_closed());
+    let seed = first_seed(SEED);
+    println!("{} sessions from seed {seed:#x}", SESSIONS * times());
     let workers = thread::available_parallelism().map_or(1, |count| count.get().min(4)) as u64;
     let mut census = Census::default();
-    let work: Vec<_> = (0..workers).map(|first| thread::spawn(move || random_sessions(first, workers))).collect();
+    let work: Vec<_> = (0..workers).map(|first| thread::spawn(move || random_sessions(seed, first, workers))).collect();
     for worker in work {
         let (seen, same) = worker.join().expect("a worker");
         census.join(seen);

@@ -31,9 +31,21 @@ impl Random {
     }
 }
 
+/// A number that the environment gives, or else the usual one.
+fn given(name: &str, usual: u32) -> u64 {
+    let number = |text: String| text.parse().unwrap_or_else(|_| panic!("{name} is '{text}' and no number below 2^32"));
+    u64::from(std::env::var(name).map_or(usual, number))
+}
+
 /// How many times the usual number of cases is to be done: 1, or what the environment says (`tests/run many`).
 pub fn times() -> u64 {
-    std::env::var("TIMES").map_or(1, |times| times.parse().expect("TIMES is a number"))
+    given("TIMES", 1)
+}
+
+/// The seed of a program's first case: its own, or with the environment's SEED one so many times 2^32 further, so that no two SEEDs
+/// have a case in common.
+pub fn first_seed(own: u64) -> u64 {
+    own.wrapping_add(given("SEED", 0) << 32)
 }
 
 /// A valid book of `count` terms over a random choice of symbols.

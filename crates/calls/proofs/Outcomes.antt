@@ -33,7 +33,7 @@ unfolding count stepNumbers
 refused-numbers (Add l r) n = refl
 refused-numbers (Bind v t) n = refl
 
-accepted-refusal : (step : Step) (ns : List ℕ) → refusalNumber (acceptedAs step ns) ≡ 0
+pub accepted-refusal : (step : Step) (ns : List ℕ) → refusalNumber (acceptedAs step ns) ≡ 0
 unfolding acceptedAs
 accepted-refusal (Add l r) ns = refl
 accepted-refusal (Bind v t) ns = refl

@@ -6,6 +6,8 @@ ghost use mathlib.Core.Path.{_≡_};
 ghost use mathlib.Core.Bool.{true, cond};
 ghost use Prim.Native.Nat.{_≤_};
 ghost use lib.ListN.{length};
+ghost use Rattle.model.specs.Limits.{office, sessionCapacity};
+ghost use Rattle.model.specs.Area.{areaLength};
 ghost use Rattle.theory.specs.Lengths.{longestSessionReport};
 ghost use Rattle.session.specs.text.Text.{lineMost};
 ghost use Rattle.printing.specs.whole.Loop.{standing, endFrom, sessionEnd};
@@ -69,7 +71,8 @@ fn steps(
     Progress { printed: true, at }
 }
 
-// The opening, and the steps where it is accepted.
+// The opening, and the steps where it is accepted. The area and the output are as long as a session needs, so what is printed is the
+// text of the session (printing specs/whole/Loop.antt: `TextOfSession`).
 fn run_session(
     input: &[u8],
     area: &mut [u8],
@@ -77,6 +80,7 @@ fn run_session(
     report: &mut [u8],
     text: &mut [u8],
 ) -> Progress
+    requires area { ⌜ areaLength office sessionCapacity ≤ length (now area) ⌝ }
     requires output { ⌜ length (now out) ≡ longestSessionReport ⌝ }
     requires lines { ⌜ (length (now report) ≡ lineMost 2 longestSessionReport) × (length (now text) ≡ lineMost 2 longestSessionReport) ⌝ }
     ensures { λ r. ⌜ (r .printed ≡ true → standing (r .at) (now (area .exit)) (now (out .exit))

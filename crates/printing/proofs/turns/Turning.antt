@@ -16,6 +16,7 @@ use Rattle.step.specs.declared.answer.Step.the-variants.{Add, Bind}
 use Rattle.step.specs.declared.answer.StepAnswer.{StepAnswer}
 use Rattle.step.specs.declared.answer.StepAnswer.the-variants.{Refused}
 use Rattle.step.specs.answer.Stepped.{refusalNumber, acceptedAs}
+use Rattle.calls.proofs.Outcomes.{accepted-refusal}
 use Rattle.calls.specs.Called.{callStep, answerTo}
 use Rattle.session.specs.declared.command.Command.{Command}
 use Rattle.session.specs.declared.command.Command.the-variants.{Ended as NoMore, Stopped as Stop, Take, Report}
@@ -78,16 +79,10 @@ module _ (area out : List ℕ) where
   keeps-report next n kept f h next′ =
       rw (report-area next, report-again area out) (refl, rw (report-line (callReport office area out) next′ 0 _ next) f)
 
--- REFUSED STEPS leave the area.
-accepted-case : (step : Step) (ns : List ℕ) → refusalNumber (acceptedAs step ns) ≡ 0
-unfolding acceptedAs
-accepted-case (Add l r) ns = refl
-accepted-case (Bind v t) ns = refl
-
--- so the refusal is one
+-- REFUSED STEPS leave the area. The refusal is one.
 refused-by : (step : Step) (o : Outcome) (t : Bool) → eqb (o .refusal) 0 ≡ t
     → (refusalNumber (cond t (acceptedAs step (o .numbers)) (Refused (o .refusal))) ≡ 0 → ⊥) → o .refusal ≡ 0 → ⊥
-refused-by step o true e r = absurd (r (accepted-case step (o .numbers)))
+refused-by step o true e r = absurd (r (accepted-refusal step (o .numbers)))
 refused-by step o false e r = eqb-false (o .refusal) 0 e
 
 call-leaves : (step : Step) (area : List ℕ) → (callStep office step area .refusal ≡ 0 → ⊥) → callStep office step area .area ≡ area

@@ -1,9 +1,8 @@
 // The command at a position of a session's input (specs/command/Commands.antt; docs/SPEC.md, "Sessions").
 
 ghost use mathlib.Core.Path.{_≡_};
-ghost use lib.ListN.{length, drop};
-ghost use Rattle.session.specs.text.Text.{numbersWithin};
-ghost use Rattle.session.specs.command.Commands.{commandNumbers, byNumber, commandAt};
+ghost use lib.ListN.{drop};
+ghost use Rattle.session.specs.command.Commands.{commandNumbers, askedNumbers, byNumber, commandAt};
 use step::answer::Step;
 
 // A command, with the position after it.
@@ -57,7 +56,7 @@ fn by_number(input: &[u8], n: u32, at: usize) -> Command
 // The command at position `at` of the input.
 pub fn command_at(input: &[u8], at: usize) -> Command
     ensures command { λ r. ⌜ r ≡ commandAt (now (input .entry)) at ⌝ }
-    ensures numbers { λ r. ⌜ commandNumbers r ≡ numbersWithin (length (commandNumbers r)) (drop at (now (input .entry))) ⌝ }
+    ensures numbers { λ r. ⌜ commandNumbers r ≡ askedNumbers (drop at (now (input .entry))) ⌝ }
 {
     if input.len() <= at {
         return Command::Ended;

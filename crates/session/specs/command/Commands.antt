@@ -9,18 +9,39 @@ use Rattle.leb128.specs.Number.{maxGroups, maxNumber}
 use Rattle.leb128.specs.Answer.{readAt}
 use Rattle.leb128.specs.declared.Decoded.{Decoded}
 use Rattle.leb128.specs.declared.Decoded.the-variants.{Number, Cut, Invalid}
+use Rattle.model.specs.BookBytes.{Parsed, parsed, unparsed, parseNumber}
 use Rattle.step.specs.declared.answer.Step.the-variants.{Add, Bind}
 use Rattle.session.specs.declared.command.Command.{Command}
 use Rattle.session.specs.declared.command.Command.the-variants.{Ended, Stopped, Take, Report}
 
--- DOCUMENT 01'S NUMBERS FOR EACH COMMAND, as a session's input has them: 1 l r adds a line, 2 v t fixes a choice, 3 reports. A command
--- that stops the session has none but its refusal, and the end of the input none at all.
+-- DOCUMENT 01'S NUMBERS FOR EACH COMMAND: 0 and the numbers of the step, 1 l r for a line, 2 v t for a choice, 3 for a report; or the
+-- refusal that stops the session. The end of the input has none.
 unfoldable pub commandNumbers : Command → List ℕ
 commandNumbers Ended = []
-commandNumbers (Stopped n) = []
-commandNumbers (Take (Add l r) next) = 1 ∷ l ∷ r ∷ []
-commandNumbers (Take (Bind v t) next) = 2 ∷ v ∷ t ∷ []
-commandNumbers (Report next) = 3 ∷ []
+commandNumbers (Stopped n) = n ∷ []
+commandNumbers (Take (Add l r) next) = 0 ∷ 1 ∷ l ∷ r ∷ []
+commandNumbers (Take (Bind v t) next) = 0 ∷ 2 ∷ v ∷ t ∷ []
+commandNumbers (Report next) = 0 ∷ 3 ∷ []
+
+-- What they are to be, by the bytes that are left of the input: a number that is cut gives 1, one that is not valid 2, and an unknown
+-- step 8.
+unfoldable pub orRefusal : Parsed ℕ → (ℕ → List ℕ → List ℕ) → List ℕ
+orRefusal (parsed n rest) then = then n rest
+orRefusal (unparsed n) then = n ∷ []
+
+unfoldable pub withTwoNumbers : ℕ → List ℕ → List ℕ
+withTwoNumbers n bytes = orRefusal (parseNumber bytes) (λ x rest. orRefusal (parseNumber rest) (λ y rest′. 0 ∷ n ∷ x ∷ y ∷ []))
+
+unfoldable pub askedBy : ℕ → List ℕ → List ℕ
+askedBy zero bytes = 8 ∷ []
+askedBy (suc zero) bytes = withTwoNumbers 1 bytes
+askedBy (suc (suc zero)) bytes = withTwoNumbers 2 bytes
+askedBy (suc (suc (suc zero))) bytes = 0 ∷ 3 ∷ []
+askedBy (suc (suc (suc (suc n)))) bytes = 8 ∷ []
+
+unfoldable pub askedNumbers : List ℕ → List ℕ
+askedNumbers [] = []
+askedNumbers (x ∷ xs) = orRefusal (parseNumber (x ∷ xs)) askedBy
 
 -- What follows a number, with the position after it; where there is none, its refusal stops the session.
 unfoldable pub orStopped : Decoded → (ℕ → ℕ → Command) → Command

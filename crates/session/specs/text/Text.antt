@@ -1,5 +1,6 @@
 -- Lines of numbers as text (document 01, "Sessions"): numbers in decimal, parted by single blanks, a line feed at the end of each
 -- line. Characters are bytes. Assumes nothing: these are definitions.
+use mathlib.Core.Path.{_≡_, refl}
 use mathlib.Core.List.{List, [], _∷_, _++_}
 use mathlib.Core.Bool.{cond}
 use Prim.Native.Nat.{ℕ, zero, suc, _+_, _*_, _/_, _%_}
@@ -53,6 +54,13 @@ lineMost count size = (1 + maxDigits) * (1 + count) + numberMost * size
 -- The lines, one after the other.
 unfoldable pub linesText : List (List ℕ) → List ℕ
 linesText lines = concatMap lineText lines
+
+-- Two lines in characters: 0, and 0 10 65535.
+pub text-sample :
+    linesText ((0 ∷ []) ∷ (0 ∷ 10 ∷ 65535 ∷ []) ∷ []) ≡
+    48 ∷ 10 ∷ 48 ∷ 32 ∷ 49 ∷ 48 ∷ 32 ∷ 54 ∷ 53 ∷ 53 ∷ 51 ∷ 53 ∷ 10 ∷ []
+unfolding linesText lineText following spaced decimal digits concatMap
+text-sample = refl
 
 -- The numbers that bytes hold, one after the other, at most k of them, as far as they are numbers.
 unfoldable pub consNumber : Parsed ℕ → (List ℕ → List ℕ) → List ℕ

@@ -4,35 +4,20 @@
 ghost use mathlib.Core.Path.{_≡_};
 ghost use mathlib.Core.List.{[], _∷_, map};
 ghost use Prim.Native.Nat.{ℕ, _+_, _*_, _≤_, _<_};
-ghost use lib.ListN.{length, getD, take, drop};
-ghost use Rattle.model.specs.Limits.{maxArity};
+ghost use lib.ListN.{length, getD};
 ghost use Rattle.model.specs.Area.{entryRowWords};
-ghost use Rattle.model.specs.Report.{kindArguments, class, argumentClasses};
+ghost use Rattle.model.specs.Report.{class, argumentClasses};
 ghost use Rattle.layout.specs.limits.Rows.{loadedEntry, tableOf};
 ghost use Rattle.runs.specs.Runs.{overAt};
-ghost use Rattle.report.specs.numbering.Numbering.{Entries, EntryFits, Closed, Marked, newNumber, NumberRoom, MetSoFar, MetAll, Numbered};
-use layout::limits::ENTRY_WORDS;
+ghost use Rattle.report.specs.numbering.Numbering.{Entries, Closed, Marked, newNumber, NumberRoom, MetSoFar, MetAll, Numbered};
 
 // The class of the entry in row `i`.
 fn class_at(entries: &[u32], i: usize) -> u32
     requires { ⌜ entryRowWords * i + entryRowWords ≤ length (now entries) ⌝ }
     ensures { λ r. ⌜ r ≡ loadedEntry (now (entries .entry)) i .sameAs ⌝ }
 {
-    entries[ENTRY_WORDS * i + ENTRY_WORDS - 1]
-}
-
-// How many arguments the entry in row `i` has. They start at the sixth word.
-pub fn argument_count(entries: &[u32], i: usize) -> usize
-    requires { ⌜ EntryFits (now entries) i ⌝ }
-    ensures few { λ r. ⌜ r ≤ maxArity ⌝ }
-    ensures arguments { λ r. ⌜ kindArguments (loadedEntry (now (entries .entry)) i .kind)
-        ≡ take r (drop (entryRowWords * i + 5) (now (entries .entry))) ⌝ }
-{
-    let row = ENTRY_WORDS * i;
-    if entries[row + 2] == 0 {
-        return 0;
-    }
-    entries[row + 4] as usize
+    let e = layout::entry::entry_at(entries, i);
+    e.same_as
 }
 
 // Meets class `x` of `m`: it gets the next number unless it has one. The answer is how many classes were met.
@@ -89,9 +74,13 @@ fn meet_arguments(
     ensures { λ r. ⌜ MetAll m (now (met .entry)) count (argumentClasses (tableOf (now (entries .entry)) m) i)
         (now (met .exit)) (now (numbers .exit)) r ⌝ }
 {
-    let first = ENTRY_WORDS * i + 5;
-    let end = first + argument_count(entries, i);
-    meet_all(&entries[first..end], entries, m, met, numbers, count)
+    let e = layout::entry::entry_at(entries, i);
+    if e.kind == 0 {
+        return count;
+    }
+    let end = e.count as usize;
+    let arguments = e.arguments;
+    meet_all(&arguments[..end], entries, m, met, numbers, count)
 }
 
 // The new numbers of the entries `items`, by the marks, into `out` from place `at` on.

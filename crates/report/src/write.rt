@@ -11,7 +11,6 @@ ghost use Rattle.model.specs.Call.{emit};
 ghost use Rattle.runs.specs.Emits.{Writes};
 ghost use Rattle.report.specs.numbering.Numbering.{NumberRoom};
 ghost use Rattle.report.specs.write.Shown.{classes, Tabled, headNumbers, rowNumbers, Told, Shown, EntryReadable, GivenState};
-use layout::limits::ENTRY_WORDS;
 
 // The most numbers of an entry: two names, the symbol, the count and the arguments.
 const MOST: usize = 4 + layout::limits::MAX_ARITY;
@@ -35,7 +34,8 @@ struct Numbers {
     count: usize,
 }
 
-// The numbers of the entry with number `n`.
+// The numbers of the entry with number `n`. Nothing is stored between reading the entry and the test of its kind: so the words behind
+// a hole's kind are not read.
 fn entry_numbers(names: &[u32], entries: &[u32], met: &[u32], numbers: &[u32], n: usize) -> Numbers
     requires { ⌜ (n < length (now met)) × EntryReadable (now names) (now entries) (now numbers) (getD (now met) n 0) ⌝ }
     ensures few { λ r. ⌜ r .count ≤ length (r .words) ⌝ }
@@ -43,21 +43,22 @@ fn entry_numbers(names: &[u32], entries: &[u32], met: &[u32], numbers: &[u32], n
         → take (r .count) (r .words) ≡ rowNumbers s n) ⌝ }
 {
     let i = met[n] as usize;
-    let at = ENTRY_WORDS * i;
     let mut words: [u32; MOST] = [0; MOST];
-    let left = entries[at] as usize;
-    let right = entries[at + 1] as usize;
-    words[0] = names[left];
-    words[1] = names[right];
-    if entries[at + 2] == 0 {
+    let e = layout::entry::entry_at(entries, i);
+    let left = names[e.left as usize];
+    let right = names[e.right as usize];
+    if e.kind == 0 {
+        words[0] = left;
+        words[1] = right;
         return Numbers { words, count: 3 };
     }
-    let count = crate::numbering::argument_count(entries, i);
-    let first = at + 5;
-    let end = first + count;
-    words[2] = entries[at + 3] + 1;
-    words[3] = count as u32;
-    crate::numbering::renumber(&entries[first..end], entries, numbers, &mut words, 4);
+    let count = e.count as usize;
+    let arguments = e.arguments;
+    words[0] = left;
+    words[1] = right;
+    words[2] = e.symbol + 1;
+    words[3] = e.count;
+    crate::numbering::renumber(&arguments[..count], entries, numbers, &mut words, 4);
     Numbers {
         words,
         count: 4 + count,

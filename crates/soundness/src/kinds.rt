@@ -8,7 +8,6 @@ ghost use Rattle.model.specs.Lists.{all};
 ghost use Rattle.model.specs.Table.{entry};
 ghost use Rattle.model.specs.Area.{argumentsOk, kindOk};
 ghost use Rattle.layout.specs.limits.Rows.{nodeOf, tableOf};
-use layout::limits::ENTRY_WORDS;
 use layout::limits::TERM_WORDS;
 ghost use Rattle.soundness.specs.kinds.Known.{Named, RowsKnown, Known, Terms, GivenBook, TestAnswers};
 ghost use Rattle.soundness.specs.kinds.KindTests.{argumentRight, kindRight};
@@ -23,12 +22,12 @@ fn argument_ok(names: &[u32], entries: &[u32], m: usize, i: u32, l: u32, r: u32)
     if m <= i {
         return false;
     }
-    let row = ENTRY_WORDS * i;
-    let left = entries[row] as usize;
+    let e = layout::entry::entry_at(entries, i);
+    let left = e.left as usize;
     if names[left] != names[l as usize] {
         return false;
     }
-    let right = entries[row + 1] as usize;
+    let right = e.right as usize;
     names[right] == names[r as usize]
 }
 
@@ -77,29 +76,29 @@ fn kind_fits(
         (λ b β. kindOk b β (tableOf (now (entries .entry)) m) (entry (tableOf (now (entries .entry)) m) i .kind)
         (nodeOf (now (rows .entry)) l) (nodeOf (now (rows .entry)) r)) x ⌝ }
 {
-    let kind = ENTRY_WORDS * i + 2;
+    let e = layout::entry::entry_at(entries, i);
     if !layout::limits::alike(rows, l, r) {
-        return entries[kind] == 0;
+        return e.kind == 0;
     }
-    if entries[kind] == 0 {
+    if e.kind == 0 {
         return false;
     }
     let left = TERM_WORDS * l;
-    if entries[kind + 1] != rows[left] - 1 {
+    if e.symbol != rows[left] - 1 {
         return false;
     }
     let right = TERM_WORDS * r;
-    let args = kind + 3;
+    let count = e.count as usize;
+    let args = e.arguments;
     let left_args = left + 2;
     let right_args = right + 2;
-    let args_end = args + entries[kind + 2] as usize;
     let left_end = left_args + rows[left + 1] as usize;
     let right_end = right_args + rows[right + 1] as usize;
     arguments_ok(
         names,
         entries,
         m,
-        &entries[args..args_end],
+        &args[..count],
         &rows[left_args..left_end],
         &rows[right_args..right_end],
     )
@@ -112,9 +111,9 @@ fn kind_ok(rows: &[u32], roots: &[u32], names: &[u32], entries: &[u32], m: usize
     ensures { λ x. ⌜ TestAnswers (λ b β. Known b β (now (rows .entry)) (now (roots .entry)) (now (names .entry)) (now (entries .entry)) m)
         (λ b β. kindRight b β (tableOf (now (entries .entry)) m) (entry (tableOf (now (entries .entry)) m) i)) x ⌝ }
 {
-    let row = ENTRY_WORDS * i;
-    let left = entries[row] as usize;
-    let right = entries[row + 1] as usize;
+    let e = layout::entry::entry_at(entries, i);
+    let left = e.left as usize;
+    let right = e.right as usize;
     kind_fits(
         rows,
         names,

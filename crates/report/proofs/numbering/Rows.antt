@@ -1,23 +1,21 @@
 -- What a row of a table holds: its class and its arguments. Assumes nothing.
-use mathlib.Core.Path.{_≡_, refl, sym, ap, _∙_}
+use mathlib.Core.Path.{_≡_, sym, ap, _∙_}
 use mathlib.Core.List.{List, [], map}
-use Prim.Native.Nat.{ℕ, _+_, _*_, _-_, _≤_, _<_}
+use Prim.Native.Nat.{ℕ, _+_, _*_, _≤_, _<_}
 use native.Mathlib.Omega.{arith}
 use borrow.Author.Tests.{eq-eqb, ne-eqb}
 use lib.ListN.{length, take, drop, length-take, length-drop}
-use lib.Seq.{length-take-le}
+use lib.Seq.{length-take-le, take-take}
 use Rattle.model.specs.Limits.{maxArity}
 use Rattle.model.specs.Table.{hole, common, Entry, entry}
 use Rattle.model.specs.Area.{entryRowWords}
 use Rattle.model.specs.Report.{kindArguments, class, argumentClasses}
 use Rattle.layout.specs.limits.Rows.{at, kindOf, loadedEntry, tableOf}
+use Rattle.layout.specs.entry.Row.{rowOf}
+use Rattle.layout.specs.declared.entry.Entry.{Entry as Row}
 use Rattle.layout.proofs.limits.Rows.{getD-tableOf}
+use Rattle.layout.proofs.entry.Fields.{kind-read, count-read, arguments-long, arguments-read, same-as-read}
 use Rattle.report.specs.numbering.Numbering.{Entries, EntryFits, Closed}
-
--- the class of a row is its last word
-pub row-class : (entries : List ℕ) (i : ℕ) → at entries (entryRowWords * i + entryRowWords - 1) ≡ loadedEntry entries i .sameAs
-unfolding loadedEntry
-row-class entries i = refl
 
 module _ (entries : List ℕ) (i : ℕ) where
   -- the kind in a row: a hole, or common, with as many arguments as its count says
@@ -37,7 +35,7 @@ module _ (entries : List ℕ) (i : ℕ) where
       rw (ne-eqb (at entries (row + 2)) 0 h, symbol, count, first)
 
   -- so its arguments
-  pub hole-arguments : at entries (entryRowWords * i + 2) ≡ 0 → kindArguments (loadedEntry entries i .kind) ≡ []
+  hole-arguments : at entries (entryRowWords * i + 2) ≡ 0 → kindArguments (loadedEntry entries i .kind) ≡ []
   unfolding kindArguments
   hole-arguments e = ap kindArguments (row-hole e)
 
@@ -47,40 +45,57 @@ module _ (entries : List ℕ) (i : ℕ) where
   common-arguments h = ap kindArguments (row-common h)
 
   -- which are at most maxArity
-  pub few-arguments : EntryFits entries i → (at entries (entryRowWords * i + 2) ≡ 0 → ⊥) → at entries (entryRowWords * i + 4) ≤ maxArity
+  few-arguments : EntryFits entries i → (at entries (entryRowWords * i + 2) ≡ 0 → ⊥) → at entries (entryRowWords * i + 4) ≤ maxArity
   few-arguments fits h =
       let n : ℕ = at entries (entryRowWords * i + 4) in
       let few = rw (common-arguments h, length-take n (drop (entryRowWords * i + 5) entries), length-drop) at (fits .few) in
       omega (arith, few, fits .within)
 
-  -- the arguments, as the n words that are lent
-  module _ (n : ℕ) (are : kindArguments (loadedEntry entries i .kind) ≡ take n (drop (entryRowWords * i + 5) entries)) where
-    abbrev pub lent : List ℕ
-    lent = take (entryRowWords * i + 5 + n - (entryRowWords * i + 5)) (drop (entryRowWords * i + 5) entries)
-
-    pub lent-words : lent ≡ kindArguments (loadedEntry entries i .kind)
-    lent-words =
-        let count : entryRowWords * i + 5 + n - (entryRowWords * i + 5) ≡ n = omega arith in
-        rw count (sym are)
-
-    pub lent-length : EntryFits entries i → n ≤ maxArity → length lent ≡ n
-    lent-length fits few =
-        let count : entryRowWords * i + 5 + n - (entryRowWords * i + 5) ≡ n = omega arith in
-        rw count (length-take-le n (drop (entryRowWords * i + 5) entries) (rw length-drop (omega (arith, fits .within))))
-
-    -- those of entry i of a table
-    module _ (m : ℕ) (l : i < m) where
-      lent-arguments : lent ≡ kindArguments (entry (tableOf entries m) i .kind)
-      lent-arguments = lent-words ∙ sym (ap (λ (e : Entry). kindArguments (e .kind)) (getD-tableOf entries m i l))
-
-      pub lent-entries : Closed entries m → Entries m lent
-      lent-entries closed = rw lent-arguments (closed .arguments i l)
-
-      pub lent-classes : map (class (tableOf entries m)) lent ≡ argumentClasses (tableOf entries m) i
-      unfolding argumentClasses
-      lent-classes = rw lent-arguments
-
   -- the class of entry i of a table
   pub class-row : (m : ℕ) → i < m → class (tableOf entries m) i ≡ loadedEntry entries i .sameAs
   unfolding class
   class-row m l = ap (λ (e : Entry). e .sameAs) (getD-tableOf entries m i l)
+
+-- the class of an entry that was read
+pub class-read : (entries : List ℕ) (i : ℕ) → entryRowWords * i + entryRowWords ≤ length entries → (e : Row)
+    → rowOf e ≡ take entryRowWords (drop (entryRowWords * i) entries) → e .«same_as» ≡ loadedEntry entries i .sameAs
+unfolding loadedEntry
+class-read entries i within e read = same-as-read entries i within e read
+
+-- its arguments: a hole has none, any other entry as many of the eight places as its count says
+module _ {entries : List ℕ} {i : ℕ} (fits : EntryFits entries i) (e : Row) (read : rowOf e ≡ take entryRowWords (drop (entryRowWords * i) entries)) where
+  hole-read : e .kind ≡ 0 → kindArguments (loadedEntry entries i .kind) ≡ []
+  hole-read h = hole-arguments entries i (sym (kind-read entries i (fits .within) e read) ∙ h)
+
+  pub hole-classes : e .kind ≡ 0 → (m : ℕ) → i < m → argumentClasses (tableOf entries m) i ≡ []
+  unfolding argumentClasses
+  hole-classes h m l = rw (getD-tableOf entries m i l, hole-read h)
+
+  module _ (h : e .kind ≡ 0 → ⊥) where
+    no-hole : at entries (entryRowWords * i + 2) ≡ 0 → ⊥
+    no-hole z = h (kind-read entries i (fits .within) e read ∙ z)
+
+    pub few-read : e .count ≤ maxArity
+    few-read = rw (count-read entries i (fits .within) e read) (few-arguments entries i fits no-hole)
+
+    pub places-read : e .count ≤ length (e .arguments)
+    places-read = rw (arguments-long entries i (fits .within) e read) few-read
+
+    pub length-read : length (take (e .count) (e .arguments)) ≡ e .count
+    length-read = length-take-le (e .count) (e .arguments) places-read
+
+    pub arguments-are : take (e .count) (e .arguments) ≡ kindArguments (loadedEntry entries i .kind)
+    arguments-are =
+        rw (arguments-read entries i (fits .within) e read, take-take (e .count) maxArity (drop (entryRowWords * i + 5) entries) few-read, common-arguments entries i no-hole, count-read entries i (fits .within) e read)
+
+    -- those of entry i of a table
+    module _ (m : ℕ) (l : i < m) where
+      in-table : take (e .count) (e .arguments) ≡ kindArguments (entry (tableOf entries m) i .kind)
+      in-table = arguments-are ∙ sym (ap (λ (x : Entry). kindArguments (x .kind)) (getD-tableOf entries m i l))
+
+      pub entries-read : Closed entries m → Entries m (take (e .count) (e .arguments))
+      entries-read closed = rw in-table (closed .arguments i l)
+
+      pub classes-read : map (class (tableOf entries m)) (take (e .count) (e .arguments)) ≡ argumentClasses (tableOf entries m) i
+      unfolding argumentClasses
+      classes-read = rw in-table

@@ -6,7 +6,7 @@ use native.Mathlib.Numerals.{add-one}
 use native.Mathlib.Omega.{arith}
 use lib.ListN.{length, take, drop, length-map}
 use lib.Seq.{take-at}
-use Rattle.model.specs.Limits.{maxArity, maxSymbol}
+use Rattle.model.specs.Limits.{maxSymbol}
 use Rattle.model.specs.Term.{Node, symbol, Book, Bindings}
 use Rattle.model.specs.Table.{Kind, hole, common, Entry, Table, entry}
 use Rattle.model.specs.Step.{State}
@@ -15,9 +15,12 @@ use Rattle.model.specs.Report.{kindArguments, kindNumbers, entryNumbers}
 use Rattle.theory.proofs.Soundness.Facts.{KindRight}
 use Rattle.theory.proofs.Area.Small.{root-symbol}
 use Rattle.layout.specs.limits.Rows.{at, loadedEntry}
+use Rattle.layout.specs.entry.Row.{rowOf}
+use Rattle.layout.specs.declared.entry.Entry.{Entry as Row}
+use Rattle.layout.proofs.entry.Fields.{left-read, right-read, kind-read, symbol-read}
 use Rattle.runs.specs.Runs.{overAt}
 use Rattle.report.specs.numbering.Numbering.{newNumber}
-use Rattle.report.proofs.numbering.Rows.{row-hole, row-common, common-arguments, lent, lent-words, lent-length}
+use Rattle.report.proofs.numbering.Rows.{row-hole, row-common, common-arguments, length-read, arguments-are}
 use Rattle.report.specs.write.Shown.{classes, Tabled, rowNumbers, Shown, EntryReadable}
 use Rattle.report.proofs.write.Tables.{Marks, facts, entry-row, row-fits, class-present, arguments-marked, argument-numbers}
 
@@ -33,10 +36,22 @@ row-symbol : (entries : List ℕ) (i : ℕ) → (at entries (entryRowWords * i +
     → loadedEntry entries i .kind ≡ common (at entries (entryRowWords * i + 3)) (kindArguments (loadedEntry entries i .kind))
 row-symbol entries i h = row-common entries i h ∙ rw (common-arguments entries i h)
 
--- the arguments that are lent have marks
-pub lent-marked : {names entries numbers : List ℕ} {i : ℕ} → EntryReadable names entries numbers i → (k : ℕ)
-    (are : kindArguments (loadedEntry entries i .kind) ≡ take k (drop (entryRowWords * i + 5) entries)) → Marks entries numbers (lent entries i k are)
-lent-marked {names} {entries} {numbers} {i} h k are = rw (lent-words entries i k are) (h .marked)
+-- what is read of an entry: its sides are named, its symbol is small, and its arguments have marks
+module _ {names entries numbers : List ℕ} {i : ℕ} (h : EntryReadable names entries numbers i) (e : Row)
+    (read : rowOf e ≡ take entryRowWords (drop (entryRowWords * i) entries)) where
+  pub left-named : e .left < length names
+  left-named = rw (left-read entries i (h .fits .within) e read) (h .left-fits)
+
+  pub right-named : e .right < length names
+  right-named = rw (right-read entries i (h .fits .within) e read) (h .right-fits)
+
+  module _ (k : e .kind ≡ 0 → ⊥) where
+    pub small-read : e .symbol ≤ maxSymbol
+    small-read =
+        rw (symbol-read entries i (h .fits .within) e read) (h .small-symbol (λ z. k (kind-read entries i (h .fits .within) e read ∙ z)))
+
+    pub marked-read : Marks entries numbers (take (e .count) (e .arguments))
+    marked-read = rw (arguments-are (h .fits) e read k) (h .marked)
 
 -- four numbers, and the others laid behind them
 filled : (a b c d : ℕ) (rest xs end : List ℕ) (n : ℕ) → end ≡ overAt (a ∷ b ∷ c ∷ d ∷ rest) 4 xs → length xs ≡ n → take (4 + n) end ≡ a ∷ b ∷ c ∷ d ∷ xs
@@ -97,28 +112,39 @@ module _ {s : State} {names entries met numbers : List ℕ} (shown : Shown s nam
   by-kind k e =
       rw (is-row, ← e, shown .named .is-name (loadedEntry entries i .left) left-term, shown .named .is-name (loadedEntry entries i .right) right-term)
 
-  pub hole-numbers : at entries (entryRowWords * at met n + 2) ≡ 0
-      → rowNumbers s n ≡ at names (at entries (entryRowWords * at met n)) ∷ at names (at entries (entryRowWords * at met n + 1)) ∷ 0 ∷ []
-  unfolding kindNumbers
-  hole-numbers = rw is-class (λ h. by-kind hole (row-hole entries i h))
+  -- as they are read
+  module _ (e : Row) (read : rowOf e ≡ take entryRowWords (drop (entryRowWords * at met n) entries)) where
+    is-left : e .left ≡ at entries (entryRowWords * i)
+    is-left = rw is-class at (left-read entries (at met n) (readable .fits .within) e read)
 
-  common-numbers : (at entries (entryRowWords * at met n + 2) ≡ 0 → ⊥)
-      → let args = kindArguments (loadedEntry entries (at met n) .kind) in
-      rowNumbers s n ≡ at names (at entries (entryRowWords * at met n)) ∷ at names (at entries (entryRowWords * at met n + 1)) ∷
-      (at entries (entryRowWords * at met n + 3) + 1) ∷ length args ∷ map (newNumber entries numbers) args
-  unfolding kindNumbers
-  common-numbers = rw is-class (λ h. by-kind _ (row-symbol entries i h) ∙ rw (argument-numbers t n within, add-one (at entries (entryRowWords * i + 3))))
+    is-right : e .right ≡ at entries (entryRowWords * i + 1)
+    is-right = rw is-class at (right-read entries (at met n) (readable .fits .within) e read)
 
-  -- laid behind the first four, the numbers of k arguments complete those of a common entry
-  module _ (h : at entries (entryRowWords * at met n + 2) ≡ 0 → ⊥) (k : ℕ)
-      (are : kindArguments (loadedEntry entries (at met n) .kind) ≡ take k (drop (entryRowWords * at met n + 5) entries)) (few : k ≤ maxArity) where
-    pub common-filled : (rest end : List ℕ)
-        → end ≡ overAt (at names (at entries (entryRowWords * at met n)) ∷ at names (at entries (entryRowWords * at met n + 1)) ∷
-        (at entries (entryRowWords * at met n + 3) + 1) ∷ k ∷ rest) 4 (map (newNumber entries numbers) (lent entries (at met n) k are))
-        → take (4 + k) end ≡ rowNumbers s n
-    common-filled rest end e =
-        let args = kindArguments (loadedEntry entries (at met n) .kind) in
-        let long : length (lent entries (at met n) k are) ≡ k = lent-length entries (at met n) k are (readable .fits) few in
-        let same : lent entries (at met n) k are ≡ args = lent-words entries (at met n) k are in
-        let count : length args ≡ k = rw same at long in
-        filled _ _ _ _ rest _ end k e (rw length-map long) ∙ rw same (sym (rw count at (common-numbers h)))
+    is-kind : e .kind ≡ at entries (entryRowWords * i + 2)
+    is-kind = rw is-class at (kind-read entries (at met n) (readable .fits .within) e read)
+
+    is-symbol : e .symbol ≡ at entries (entryRowWords * i + 3)
+    is-symbol = rw is-class at (symbol-read entries (at met n) (readable .fits .within) e read)
+
+    pub hole-numbers : e .kind ≡ 0 → at names (e .left) ∷ at names (e .right) ∷ 0 ∷ [] ≡ rowNumbers s n
+    unfolding kindNumbers
+    hole-numbers h = rw (is-left, is-right) (sym (by-kind hole (row-hole entries i (sym is-kind ∙ h))))
+
+    module _ (h : e .kind ≡ 0 → ⊥) where
+      abbrev args : List ℕ
+      args = take (e .count) (e .arguments)
+
+      common-numbers : rowNumbers s n ≡ at names (e .left) ∷ at names (e .right) ∷ (e .symbol + 1) ∷ e .count ∷ map (newNumber entries numbers) args
+      unfolding kindNumbers
+      common-numbers =
+          let same : args ≡ kindArguments (loadedEntry entries i .kind) = rw is-class at (arguments-are (readable .fits) e read h) in
+          let count : length (kindArguments (loadedEntry entries i .kind)) ≡ e .count = rw same at (length-read (readable .fits) e read h) in
+          by-kind _ (row-symbol entries i (λ z. h (is-kind ∙ z))) ∙
+          rw (same, argument-numbers t n within, is-left, is-right, is-symbol, add-one (at entries (entryRowWords * i + 3)), count)
+
+      -- laid behind the first four, the numbers of the arguments complete those of a common entry
+      pub common-filled : (rest end : List ℕ)
+          → end ≡ overAt (at names (e .left) ∷ at names (e .right) ∷ (e .symbol + 1) ∷ e .count ∷ rest) 4 (map (newNumber entries numbers) args)
+          → take (4 + e .count) end ≡ rowNumbers s n
+      common-filled rest end f =
+          filled _ _ _ _ rest _ end (e .count) f (rw length-map (length-read (readable .fits) e read h)) ∙ sym common-numbers

@@ -6,7 +6,9 @@ use Prim.Native.Nat.{ℕ, _+_, _*_, _-_, _≤_, _<_}
 use native.Mathlib.Omega.{arith}
 use borrow.Author.Tests.{lt-ltb, le-ltb}
 use lib.ListN.{length, getD, take, drop}
+use lib.Seq.{take-take}
 use lib.Dec.{eqb, ltb→lt}
+use Rattle.model.specs.Limits.{maxArity}
 use Rattle.model.specs.Lists.{all, from}
 use Rattle.model.specs.Term.{var, arguments, Book, Bindings, root}
 use Rattle.model.specs.Table.{Entry, entry}
@@ -18,6 +20,9 @@ use Rattle.theory.proofs.Soundness.Terms.{all-below}
 use Rattle.theory.proofs.Values.Ends.{argument-lt}
 use Rattle.theory.proofs.Values.Equations.{deref-lt}
 use Rattle.layout.specs.limits.Rows.{at, nodeOf, kindOf, loadedEntry, tableOf}
+use Rattle.layout.specs.entry.Row.{rowOf}
+use Rattle.layout.specs.declared.entry.Entry.{Entry as Row}
+use Rattle.layout.proofs.entry.Fields.{left-read, right-read, kind-read, symbol-read, count-read, arguments-long, arguments-read}
 use Rattle.layout.proofs.limits.Rows.{length-tableOf, getD-bookOf, getD-tableOf, node-app}
 use Rattle.soundness.specs.rows.RowTests.{zeroFrom, entryRowOk, entryRowsOk}
 use Rattle.soundness.proofs.sound.Facts.{EntryRow}
@@ -68,11 +73,40 @@ module _ {b : Book} {β : Bindings} {names entries : List ℕ} {m : ℕ} (k : Na
   pub right-term : entry (tableOf entries m) i .right < length b
   right-term = rw (entry-right entries m i l) right-lt
 
-  -- the arguments lie in the rows
-  pub arguments-end : entryRowWords * i + 2 + 3 + at entries (entryRowWords * i + 2 + 2) ≤ length entries
-  arguments-end =
-      let there : entryRowWords * i + 2 + 2 ≡ entryRowWords * i + 4 = omega arith in
-      rw there (omega (arith, row .count, k .entries-fit))
+  pub row-within : entryRowWords * i + entryRowWords ≤ length entries
+  row-within = omega (arith, k .entries-fit)
+
+  -- the fields of the entry, where it is read
+  module _ (e : Row) (read : rowOf e ≡ take entryRowWords (drop (entryRowWords * i) entries)) where
+    pub is-left : e .left ≡ at entries (entryRowWords * i)
+    is-left = left-read entries i row-within e read
+
+    pub is-right : e .right ≡ at entries (entryRowWords * i + 1)
+    is-right = right-read entries i row-within e read
+
+    pub left-side : e .left < length b
+    left-side = rw is-left left-lt
+
+    pub right-side : e .right < length b
+    right-side = rw is-right right-lt
+
+    pub is-kind : e .kind ≡ at entries (entryRowWords * i + 2)
+    is-kind = kind-read entries i row-within e read
+
+    pub is-symbol : e .symbol ≡ at entries (entryRowWords * i + 2 + 1)
+    is-symbol = let there : entryRowWords * i + 2 + 1 ≡ entryRowWords * i + 3 = omega arith in rw there (symbol-read entries i row-within e read)
+
+    few : e .count ≤ maxArity
+    few = rw (count-read entries i row-within e read) (row .count)
+
+    pub places : e .count ≤ length (e .arguments)
+    places = rw (arguments-long entries i row-within e read) few
+
+    pub are-arguments : take (e .count) (e .arguments) ≡ take (at entries (entryRowWords * i + 2 + 2)) (drop (entryRowWords * i + 2 + 3) entries)
+    are-arguments =
+        let there : entryRowWords * i + 2 + 2 ≡ entryRowWords * i + 4 = omega arith in
+        let first : entryRowWords * i + 2 + 3 ≡ entryRowWords * i + 5 = omega arith in
+        rw (there, first, arguments-read entries i row-within e read, take-take (e .count) maxArity (drop (entryRowWords * i + 5) entries) few, count-read entries i row-within e read)
 
   -- entry i has the values of two terms where the names of its sides are theirs
   pub argument-names : (t u : ℕ) → t < length b → u < length b → argumentRight b β (tableOf entries m) i t u

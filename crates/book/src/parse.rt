@@ -26,7 +26,7 @@ pub enum Advance {
 
 // The `count` arguments of term `t`, into its row.
 fn read_arguments(bytes: &[u8], at: usize, t: u32, count: u32, rows: &mut [u32]) -> Advance
-    requires { ⌜ (termWords * t + termWords ≤ length (now rows)) × (count ≤ maxArity) ⌝ }
+    requires { ⌜ (at ≤ length (now bytes)) × (termWords * t + termWords ≤ length (now rows)) × (count ≤ maxArity) ⌝ }
     ensures { λ r. ⌜ AdvanceOf (now (bytes .entry)) (parseArguments t count (drop at (now (bytes .entry)))) (ArgumentsIn t count (now (rows .entry)) (now (rows .exit))) r ⌝ }
 {
     let mut next = at;
@@ -95,7 +95,7 @@ fn read_term(
 
 // The `count` terms of a book, into rows that are all zero.
 pub fn read_terms(bytes: &[u8], at: usize, count: u32, rows: &mut [u32]) -> Advance
-    requires { ⌜ (termWords * count ≤ length (now rows)) × (now rows ≡ replicate (length (now rows)) 0) ⌝ }
+    requires { ⌜ (at ≤ length (now bytes)) × (termWords * count ≤ length (now rows)) × (now rows ≡ replicate (length (now rows)) 0) ⌝ }
     ensures { λ r. ⌜ AdvanceOf (now (bytes .entry)) (parseTerms count [] (drop at (now (bytes .entry)))) (BookIn count (length (now (rows .entry))) (now (rows .exit))) r ⌝ }
 {
     let mut counts = [0u8; layout::limits::SYMBOLS];

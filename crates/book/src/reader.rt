@@ -3,8 +3,7 @@
 // decoding calls with a slice and a position.
 
 ghost use mathlib.Core.Path.{_≡_};
-ghost use lib.ListN.{drop};
-ghost use Rattle.book.specs.reader.Below.{parseBelow, partOf, unread};
+ghost use Rattle.book.specs.reader.Below.{partAt};
 
 // A book's bytes and the position that is read next.
 struct Reader<'a> {
@@ -20,7 +19,7 @@ pub enum Part {
 
 // The work: the number at position `at` is below `limit`, else the refusal `refusal`.
 fn number_at(bytes: &[u8], at: usize, limit: u32, refusal: u32) -> Part
-    ensures { λ r. ⌜ parseBelow limit refusal (drop at (now (bytes .entry))) ≡ partOf (now (bytes .entry)) r ⌝ }
+    ensures { λ r. ⌜ r ≡ partAt (now (bytes .entry)) at limit refusal ⌝ }
 {
     match leb128::read(bytes, at) {
         leb128::Decoded::Number { value, next } => {
@@ -44,14 +43,14 @@ fn new<'a>(src: &'a [u8], at: usize) -> Reader<'a>
 
 // The number at the reader's position.
 fn number<'a>(r: Reader<'a>, limit: u32, refusal: u32) -> Part
-    ensures { λ p. ⌜ parseBelow limit refusal (unread (r .entry)) ≡ partOf (now (r .entry .src)) p ⌝ }
+    ensures { λ p. ⌜ p ≡ partAt (now (r .entry .src)) (r .entry .at) limit refusal ⌝ }
 {
     number_at(r.src, r.at, limit, refusal)
 }
 
 // The number at position `at`, through a reader: it is below `limit`, else the refusal `refusal`.
 pub fn read_below(bytes: &[u8], at: usize, limit: u32, refusal: u32) -> Part
-    ensures { λ p. ⌜ parseBelow limit refusal (drop at (now (bytes .entry))) ≡ partOf (now (bytes .entry)) p ⌝ }
+    ensures { λ p. ⌜ p ≡ partAt (now (bytes .entry)) at limit refusal ⌝ }
 {
     number(new(bytes, at), limit, refusal)
 }

@@ -20,28 +20,31 @@ pub record Read (bytes : List ℕ) (at t count : ℕ) (rows₀ rows : List ℕ) 
   pub args : List ℕ
   pub as-many : length args ≡ i
   pub most : i ≤ count
+  pub within : next ≤ length bytes
   pub written : rows ≡ sets rows₀ (termWords * t + 2) args
   pub parse : parseArguments t count (drop at bytes) ≡ behind args (parseArguments t (count - i) (drop next bytes))
 
 module _ (bytes : List ℕ) (at t count : ℕ) (rows₀ : List ℕ) where
-  pub read-none : Read bytes at t count rows₀ rows₀ at 0
-  read-none = record {
+  pub read-none : at ≤ length bytes → Read bytes at t count rows₀ rows₀ at 0
+  read-none w = record {
     args = [];
     as-many = refl;
     most = omega arith;
+    within = w;
     written = refl;
     parse = rw sub-zero (behind-none (parseArguments t count (drop at bytes)));
   }
 
   module _ (rows : List ℕ) (next i : ℕ) (r : Read bytes at t count rows₀ rows next i) where
-    pub read-more : (a after : ℕ) → i < count → parseBelow t 5 (drop next bytes) ≡ parsed a (drop after bytes)
+    pub read-more : (a after : ℕ) → i < count → parseBelow t 5 (drop next bytes) ≡ parsed a (drop after bytes) → after ≤ length bytes
         → Read bytes at t count rows₀ (set rows (termWords * t + 2 + i) a) after (i + 1)
-    read-more a after l e =
+    read-more a after l e w =
         let left : count - i ≡ suc (count - (i + 1)) = omega arith in
         record {
           args = r .args ++ a ∷ [];
           as-many = length-append (r .args) (a ∷ []) ∙ ap (λ (n : ℕ). n + 1) (r .as-many);
           most = omega arith;
+          within = w;
           written = rw (sets-more, r .as-many, ← r .written);
           parse = r .parse ∙ rw left (behind-more t (count - (i + 1)) (r .args) (drop next bytes) a (drop after bytes) e);
         }
@@ -55,4 +58,4 @@ module _ (bytes : List ℕ) (at t count : ℕ) (rows₀ : List ℕ) where
     read-all l =
         let left : count - i ≡ 0 = omega arith in
         let whole : i ≡ count = omega arith in
-        (r .args, r .parse ∙ rw left (behind-last t 0 (r .args) (drop next bytes)), record { as-many = r .as-many ∙ whole; written = r .written })
+        (r .args, r .parse ∙ rw left (behind-last t 0 (r .args) (drop next bytes)), r .within, record { as-many = r .as-many ∙ whole; written = r .written })

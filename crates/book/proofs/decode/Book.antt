@@ -24,6 +24,7 @@ pub record Read (bytes : List ℕ) (at count size : ℕ) (rows counts : List ℕ
   pub book : Book
   pub as-many : length book ≡ t
   pub most : t ≤ count
+  pub within : next ≤ length bytes
   pub wide : length (concatMap nodeWords book) ≡ termWords * length book
   pub written : rows ≡ bookRows size book
   pub counted : Counted book counts
@@ -31,12 +32,13 @@ pub record Read (bytes : List ℕ) (at count size : ℕ) (rows counts : List ℕ
   pub parse : parseTerms count [] (drop at bytes) ≡ parseTerms (count - t) book (drop next bytes)
 
 module _ (bytes : List ℕ) (at count size : ℕ) where
-  pub read-none : (rows : List ℕ) → rows ≡ replicate size 0 → Read bytes at count size rows (replicate (suc maxSymbol) 0) at 0
+  pub read-none : (rows : List ℕ) → at ≤ length bytes → rows ≡ replicate size 0 → Read bytes at count size rows (replicate (suc maxSymbol) 0) at 0
   unfolding concatMap
-  read-none rows e = record {
+  read-none rows w e = record {
     book = [];
     as-many = refl;
     most = omega arith;
+    within = w;
     wide = refl;
     written = e ∙ rows-none size;
     counted = counted-none;
@@ -61,11 +63,12 @@ module _ (bytes : List ℕ) (at count size : ℕ) where
       unfolding andThen
       more after m s =
           let x = s .0 in
-          let term = s .2 in
+          let term = s .3 in
           record {
             book = r .book ++ x ∷ [];
             as-many = length-append (r .book) (x ∷ []) ∙ ap (λ (n : ℕ). n + 1) (r .as-many);
             most = omega arith;
+            within = s .2;
             wide = length-more (r .book) x counts (term .suits) (r .wide);
             written = term .written ∙ rw (r .written, ← r .as-many) (rows-more (r .book) x counts (term .suits) size (r .wide) (omega (arith, r .as-many)));
             counted = rw (term .counted) (counted-more (r .book) counts x (r .symbols) (term .suits) (r .counted));
@@ -87,4 +90,4 @@ module _ (bytes : List ℕ) (at count size : ℕ) where
   read-all rows counts next t r l =
       let left : count - t ≡ 0 = omega arith in
       let whole : t ≡ count = omega arith in
-      (r .book, r .parse ∙ rw left, record { as-many = r .as-many ∙ whole; written = r .written })
+      (r .book, r .parse ∙ rw left, r .within, record { as-many = r .as-many ∙ whole; written = r .written })

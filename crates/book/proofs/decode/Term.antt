@@ -20,7 +20,7 @@ use Rattle.book.specs.decode.Parts.{parseCounted, parseTagged, parseTerm
 step-made : {A B : Type 0} (bytes : List ℕ) (p : Parsed A) (P : A → Type 0) (q : Parsed B) (Q : B → Type 0) (f : A → B)
     → q ≡ andThen p (λ a rest. parsed (f a) rest) → ((a : A) → P a → Q (f a)) → (r : Advance) → AdvanceOf bytes p P r → AdvanceOf bytes q Q r
 unfolding andThen
-step-made bytes p P q Q f e h (Next n) s = (f (s .0), e ∙ rw (s .1), h (s .0) (s .2))
+step-made bytes p P q Q f e h (Next n) s = (f (s .0), e ∙ rw (s .1), s .2, h (s .0) (s .3))
 step-made bytes p P q Q f e h (Refused k) s = e ∙ rw s
 
 module _ (counts : List ℕ) (t s : ℕ) (bytes : List ℕ) where

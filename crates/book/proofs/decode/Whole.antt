@@ -97,4 +97,4 @@ module _ (lim : Limits) (bytes : List ℕ) (size : ℕ) (rows : List ℕ) where
     pub whole-book : (a : Advance) (end : ℕ) → Answered a → a ≡ Next end → length bytes ≤ end → Decoded 0 n
     whole-book a end s q l =
         let d : Answered (Next end) = subst Answered q s in
-        book-answer n (d .0) (book-whole lim bytes n (drop next bytes) e (d .0) end (d .1) l) (subst (λ k. BookIn n k rows (d .0)) long (d .2))
+        book-answer n (d .0) (book-whole lim bytes n (drop next bytes) e (d .0) end (d .1) l) (subst (λ k. BookIn n k rows (d .0)) long (d .3))

@@ -1,10 +1,10 @@
--- The number at a position, and a number below a limit, against the definition of a number in crate model. Assumes nothing.
-use mathlib.Core.Path.{_≡_, refl, sym, ap, _∙_}
+-- The number at a position, and what the reader of a number below a limit answers, against the definition of a number in crate model. Assumes nothing.
+use mathlib.Core.Path.{_≡_, refl, sym, ap, subst, _∙_}
 use mathlib.Core.List.{List}
-use mathlib.Core.Bool.{Bool, true, false}
+use mathlib.Core.Bool.{Bool, true, false, cond}
 use Prim.Native.Nat.{ℕ, _+_, _-_, _<_, _≤_}
 use native.Mathlib.Omega.{arith}
-use borrow.Author.Tests.{ltb-true, lt-ltb, le-ltb}
+use borrow.Author.Tests.{ltb-true}
 use lib.ListN.{length, drop, length-drop}
 use lib.Seq.{drop-drop}
 use lib.Dec.{ltb}
@@ -14,7 +14,9 @@ use Rattle.leb128.specs.declared.Decoded.{Decoded}
 use Rattle.leb128.specs.declared.Decoded.the-variants.{Number, Cut, Invalid}
 use Rattle.leb128.proofs.Laws.{rest-is-a-tail}
 use Rattle.model.specs.BookBytes.{Parsed, parsed, unparsed, andThen, need, fromRead, parseNumber}
-use Rattle.book.specs.reader.Below.{parseBelow}
+use Rattle.book.specs.declared.reader.Part.{Part}
+use Rattle.book.specs.declared.reader.Part.the-variants.{Value, Refused}
+use Rattle.book.specs.reader.Below.{parseBelow, partOf, partAt}
 
 -- ---- numbers at a position
 
@@ -48,22 +50,41 @@ pub number-answered : (bytes : List ℕ) (at : ℕ) {r r′ : Decoded} → r ≡
     → parseNumber (drop at bytes) ≡ numberOf bytes r′
 number-answered bytes at e q = number-read bytes at ∙ ap (numberOf bytes) (sym e ∙ q)
 
+-- ---- the answer to a number below a limit
+
+-- the answer, by what the reader of a number answers
+abbrev partFrom : ℕ → ℕ → Decoded → Part
+partFrom limit k (Number n next) = cond (ltb n limit) (Value n next) (Refused k)
+partFrom limit k Cut = Refused 1
+partFrom limit k Invalid = Refused 2
+
+module _ (bytes : List ℕ) (at limit k : ℕ) where
+  -- what an answer says of the outcome, and of the position that it names
+  abbrev pub Says : Part → Type 0
+  Says (Value n next) = (parseBelow limit k (drop at bytes) ≡ parsed n (drop next bytes)) × (next ≤ length bytes)
+  Says (Refused m) = parseBelow limit k (drop at bytes) ≡ unparsed m
+
+  -- the answer is made of the reader's, and says what it says
+  part-from : (r : Read) → read maxGroups maxNumber (drop at bytes) ≡ r → (partAt bytes at limit k ≡ partFrom limit k (placed (length bytes) r)) × Says (partFrom limit k (placed (length bytes) r))
+  unfolding partAt partOf parseBelow parseNumber fromRead andThen need placed
+  part-from (number n rest) e = test (ltb n limit) refl
+    where
+      test : (b : Bool) → ltb n limit ≡ b → (partAt bytes at limit k ≡ cond b (Value n (length bytes - length rest)) (Refused k)) × Says (cond b (Value n (length bytes - length rest)) (Refused k))
+      test true q = (rw (e, q), (rw (e, q) (ap (parsed n) (rest-there bytes at n rest e)), omega arith))
+      test false q = (rw (e, q), rw (e, q))
+  part-from cut e = (rw e, rw e)
+  part-from invalid e = (rw e, rw e)
+
+  pub part-answered : {r r′ : Decoded} → r ≡ readAt maxGroups maxNumber bytes at → r ≡ r′ → partFrom limit k r′ ≡ partAt bytes at limit k
+  unfolding readAt
+  part-answered e q = sym (part-from _ refl .0 ∙ ap (partFrom limit k) (sym e ∙ q))
+
+  pub part-says : {r r′ : Part} → r ≡ partAt bytes at limit k → r ≡ r′ → Says r′
+  part-says e q = subst Says (sym (part-from _ refl .0) ∙ sym e ∙ q) (part-from _ refl .1)
+
 -- ---- a number below a limit
 
 module _ (limit k : ℕ) (bytes : List ℕ) where
-  -- the outcomes of reading it
-  pub below-held : (n : ℕ) (rest : List ℕ) → parseNumber bytes ≡ parsed n rest → n < limit → parseBelow limit k bytes ≡ parsed n rest
-  unfolding parseBelow andThen need
-  below-held n rest e h = rw (e, lt-ltb n limit h)
-
-  pub below-broken : (n : ℕ) (rest : List ℕ) → parseNumber bytes ≡ parsed n rest → limit ≤ n → parseBelow limit k bytes ≡ unparsed k
-  unfolding parseBelow andThen need
-  below-broken n rest e h = rw (e, le-ltb n limit h)
-
-  pub below-refused : (m : ℕ) → parseNumber bytes ≡ unparsed m → parseBelow limit k bytes ≡ unparsed m
-  unfolding parseBelow andThen
-  below-refused m e = rw e
-
   -- a number that was read is below the limit
   pub below-small : (n : ℕ) (rest : List ℕ) → parseBelow limit k bytes ≡ parsed n rest → n < limit
   unfolding parseBelow andThen need

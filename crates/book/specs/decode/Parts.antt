@@ -2,7 +2,7 @@
 -- answers. Assumes nothing: these are definitions.
 use mathlib.Core.Path.{_≡_}
 use mathlib.Core.List.{List, [], _∷_}
-use Prim.Native.Nat.{ℕ, zero, suc, _+_, _*_}
+use Prim.Native.Nat.{ℕ, zero, suc, _+_, _*_, _≤_}
 use lib.ListN.{length, getD, drop}
 use lib.Seq.{sets}
 use Rattle.model.specs.Limits.{maxArity, maxSymbol}
@@ -35,9 +35,10 @@ unfoldable pub nodeRow : Node → List ℕ
 nodeRow var = []
 nodeRow (app s args) = suc s ∷ length args ∷ args
 
--- The outcome p is what a part answers, and P holds of what was decoded.
+-- The outcome p is what a part answers, case by case: the bytes after it begin at `next`, which is a position of the bytes or
+-- their end, and P holds of what was decoded; or the refusal.
 abbrev pub AdvanceOf : {A : Type 0} → List ℕ → Parsed A → (A → Type 0) → Advance → Type 0
-AdvanceOf {A} bytes p P (Next next) = (a : A) × (p ≡ parsed a (drop next bytes)) × P a
+AdvanceOf {A} bytes p P (Next next) = (a : A) × (p ≡ parsed a (drop next bytes)) × (next ≤ length bytes) × P a
 AdvanceOf {A} bytes p P (Refused k) = p ≡ unparsed k
 
 -- The arguments of term t stand in its row, c of them.

@@ -1,14 +1,13 @@
 -- `decode::decode` meets its contract: the number of terms is within the limit, the terms follow, and no byte is left. Assumes nothing.
-use mathlib.Core.Path.{_≡_, ap, _∙_}
+use mathlib.Core.Path.{_≡_}
 use Prim.Native.Nat.{_+_, _*_, _≤_}
 use native.Mathlib.Omega.{arith}
 use borrow.Author.Needs.{needs}
 use denote.Ref.{now}
-use lib.ListN.{length, drop}
+use lib.ListN.{length}
 use Rattle.model.specs.Area.{termWords}
-use Rattle.model.specs.BookBytes.{parsed}
-use Rattle.book.specs.reader.Below.{partOf, parseBelow}
-use Rattle.book.proofs.reader.Below.{below-small}
+use Rattle.book.specs.declared.reader.Part.the-variants.{Value}
+use Rattle.book.proofs.reader.Below.{Says, part-says, below-small}
 use Rattle.book.proofs.decode.Whole.{zeros-length, refused-count, refused-terms, refused-end, whole-book}
 use Rattle.book.proofs.decode.decode.Statement.{statement}
 use Rattle.book.proofs.decode.decode.Tie as tie
@@ -16,12 +15,11 @@ use Rattle.book.proofs.decode.decode.Tie as tie
 -- the number of terms that was read, and its limit
 count-read : (c : tie.After-value) →
     let a = c .before .before .before .before .before .before .args in
-    let bytes = now (a .bytes) in
-    parseBelow (a .lim .terms + 1) 4 bytes ≡ parsed (c .value .given .0 .0) (drop (c .value .given .0 .1 .0) bytes)
-count-read c = c .before .before .read-below .ensures ∙ ap (partOf (now (c .before .before .before .before .before .before .args .bytes))) (c .value .given .1)
+    Says (now (a .bytes)) 0 (a .lim .terms + 1) 4 (Value (c .value .given .0 .0) (c .value .given .0 .1 .0))
+count-read c = part-says _ _ _ _ (c .before .before .read-below .ensures) (c .value .given .1)
 
 count-small : (c : tie.After-value) → c .value .given .0 .0 ≤ c .before .before .before .before .before .before .args .lim .terms
-count-small c = omega (arith, below-small _ 4 _ _ _ (count-read c))
+count-small c = omega (arith, below-small _ 4 _ _ _ (count-read c .0))
 
 -- the rows have as many words as the terms of the limit take
 long : (c : tie.After-value) → let a = c .before .before .before .before .before .before .args in length (now (a .rows)) ≡ termWords * a .lim .terms
@@ -45,7 +43,7 @@ enum-known-value c = search needs
 read-terms-requires : tie.Need-read-terms-requires
 read-terms-requires c κs =
     let known = c .before .before in
-    (omega (arith, count-small known, long known), rw (long known) (known .before .before .before .before .before .before .pre .1))
+    (count-read known .1, omega (arith, count-small known, long known), rw (long known) (known .before .before .before .before .before .before .pre .1))
 
 enum-known-n-2 : tie.Need-enum-known-n-2
 enum-known-n-2 c = search needs
@@ -55,8 +53,7 @@ enum-known-end c = search needs
 
 returns : tie.Need-returns
 returns c =
-    let bytes = now (c .before .before .before .before .before .before .before .args .bytes) in
-    refused-count _ _ _ _ _ (c .before .before .before .read-below .ensures ∙ ap (partOf bytes) (c .before .n .given .1))
+    refused-count _ _ _ _ _ (part-says _ _ _ _ (c .before .before .before .read-below .ensures) (c .before .n .given .1))
 
 same-length : tie.Need-same-length
 same-length c = search needs
@@ -65,7 +62,7 @@ returns-2 : tie.Need-returns-2
 returns-2 c =
     let read = c .before .before .before .before .before in
     let known = read .before .before .before in
-    refused-terms _ _ _ _ _ (known .value .given .0 .1 .0) (count-read known) (long known) (read .read-terms .result) _ (read .read-terms .ensures) (c .before .n2 .given .1)
+    refused-terms _ _ _ _ _ (known .value .given .0 .1 .0) (count-read known .0) (long known) (read .read-terms .result) _ (read .read-terms .ensures) (c .before .n2 .given .1)
 
 same-length-2 : tie.Need-same-length-2
 same-length-2 c = search needs
@@ -74,7 +71,7 @@ returns-3 : tie.Need-returns-3
 returns-3 c =
     let read = c .before .before .before .before .before .before in
     let known = read .before .before .before in
-    refused-end _ _ _ _ _ (known .value .given .0 .1 .0) (count-read known) (long known) (read .read-terms .result) _ (read .read-terms .ensures)
+    refused-end _ _ _ _ _ (known .value .given .0 .1 .0) (count-read known .0) (long known) (read .read-terms .result) _ (read .read-terms .ensures)
     (c .before .before .end .given .1) (c .if1 .taken)
 
 same-length-3 : tie.Need-same-length-3
@@ -84,7 +81,7 @@ returns-4 : tie.Need-returns-4
 returns-4 c =
     let read = c .before .before .before .before .before .before in
     let known = read .before .before .before in
-    whole-book _ _ _ _ _ (known .value .given .0 .1 .0) (count-read known) (long known) (read .read-terms .result) _ (read .read-terms .ensures)
+    whole-book _ _ _ _ _ (known .value .given .0 .1 .0) (count-read known .0) (long known) (read .read-terms .result) _ (read .read-terms .ensures)
     (c .before .before .end .given .1) (c .if1 .left)
 
 pub decode-spec : {M : Type 1} → statement M

@@ -1,16 +1,15 @@
 -- `parse::read_app` meets its contract: the count is within its limit, it fits the table where the test says so, and then the
 -- arguments follow. Assumes nothing.
-use mathlib.Core.Path.{_≡_, ap, sym, _∙_}
+use mathlib.Core.Path.{sym, _∙_}
 use Prim.Native.Nat.{suc, _≤_}
 use native.Mathlib.Omega.{arith}
 use borrow.Author.Needs.{needs}
 use borrow.Author.Tests.{not-true, not-false}
 use denote.Ref.{now}
-use lib.ListN.{drop, length-set}
+use lib.ListN.{length-set}
 use Rattle.model.specs.Limits.{maxArity}
-use Rattle.model.specs.BookBytes.{parsed}
-use Rattle.book.specs.reader.Below.{partOf, parseBelow}
-use Rattle.book.proofs.reader.Below.{below-small}
+use Rattle.book.specs.declared.reader.Part.the-variants.{Value}
+use Rattle.book.proofs.reader.Below.{Says, part-says, below-small}
 use Rattle.book.proofs.decode.Term.{counted-broken, counted-refused, app-read}
 use Rattle.book.proofs.parse.read_app.Statement.{statement}
 use Rattle.book.proofs.parse.read_app.Tie as tie
@@ -18,11 +17,11 @@ use Rattle.book.proofs.parse.read_app.Tie as tie
 -- the count that was read, and its limit
 count-read : (c : tie.After-value) →
     let a = c .before .before .before .before .before .args in
-    parseBelow (suc maxArity) 4 (drop (a .at) (now (a .bytes))) ≡ parsed (c .value .given .0 .0) (drop (c .value .given .0 .1 .0) (now (a .bytes)))
-count-read c = c .before .before .read-below .ensures ∙ ap (partOf (now (c .before .before .before .before .before .args .bytes))) (c .value .given .1)
+    Says (now (a .bytes)) (a .at) (suc maxArity) 4 (Value (c .value .given .0 .0) (c .value .given .0 .1 .0))
+count-read c = part-says _ _ _ _ (c .before .before .read-below .ensures) (c .value .given .1)
 
 count-small : (c : tie.After-value) → c .value .given .0 .0 ≤ maxArity
-count-small c = omega (arith, below-small (suc maxArity) 4 _ _ _ (count-read c))
+count-small c = omega (arith, below-small (suc maxArity) 4 _ _ _ (count-read c .0))
 
 read-below-requires : tie.Need-read-below-requires
 read-below-requires c κs = search needs
@@ -39,7 +38,7 @@ note-count-requires c κs = omega (arith, count-small (c .before .before))
 returns : tie.Need-returns
 returns c =
     let known = c .before .before .before .before in
-    counted-broken _ _ _ _ _ _ (count-read known) (sym (c .before .note-count .ensures .0) ∙ not-true _ (c .if1 .taken))
+    counted-broken _ _ _ _ _ _ (count-read known .0) (sym (c .before .note-count .ensures .0) ∙ not-true _ (c .if1 .taken))
 
 mul-place : tie.Need-mul-place
 mul-place c = search needs
@@ -64,7 +63,7 @@ slice-write-rows-2 c = simp length-set (omega arith)
 
 read-arguments-requires : tie.Need-read-arguments-requires
 read-arguments-requires c κs =
-    (simp length-set (omega arith), omega (arith, count-small (c .before .before .before .before .before)))
+    (count-read (c .before .before .before .before .before) .1, simp length-set (omega arith), omega (arith, count-small (c .before .before .before .before .before)))
 
 enum-known-n : tie.Need-enum-known-n
 enum-known-n c = search needs
@@ -82,12 +81,11 @@ returns-2 c =
     (omega (arith, known .before .before .before .before .before .pre))
     (omega (arith, count-small known))
     (sym (noted .note-count .ensures .0) ∙ not-false _ (read .before .before .if1 .left))
-    _ _ _ _ (read .read-arguments .result) (count-read known) (noted .note-count .ensures .1) (read .read-arguments .ensures)
+    _ _ _ _ (read .read-arguments .result) (count-read known .0) (noted .note-count .ensures .1) (read .read-arguments .ensures)
 
 returns-3 : tie.Need-returns-3
 returns-3 c =
-    let bytes = now (c .before .before .before .before .before .before .args .bytes) in
-    counted-refused _ _ _ _ _ (c .before .before .before .read-below .ensures ∙ ap (partOf bytes) (c .before .n .given .1))
+    counted-refused _ _ _ _ _ (part-says _ _ _ _ (c .before .before .before .read-below .ensures) (c .before .n .given .1))
 
 pub read-app-spec : {M : Type 1} → statement M
 read-app-spec =

@@ -1,12 +1,11 @@
 -- `parse::read_arguments` meets its contract: the loop's invariant says what holds after `i` arguments, and the measure
 -- is the arguments that are left. Assumes nothing.
-use mathlib.Core.Path.{_≡_, refl, ap, _∙_}
+use mathlib.Core.Path.{_≡_, refl}
 use Prim.Native.Nat.{_-_}
 use native.Mathlib.Omega.{arith}
 use borrow.Author.Needs.{needs}
-use denote.Ref.{now}
 use lib.ListN.{length, length-set}
-use Rattle.book.specs.reader.Below.{partOf}
+use Rattle.book.proofs.reader.Below.{part-says}
 use Rattle.book.proofs.decode.Arguments.{Read, read-none, read-more, read-refused, read-all}
 use Rattle.book.proofs.parse.read_arguments.Statement.{statement}
 use Rattle.book.proofs.parse.read_arguments.Tie as tie
@@ -24,7 +23,7 @@ add-first : tie.Need-add-first Inv-loop μ-loop
 add-first c = search needs
 
 loop-holds : tie.Need-loop-holds Inv-loop μ-loop
-loop-holds c = (refl, read-none _ _ _ _ _)
+loop-holds c = (refl, read-none _ _ _ _ _ (c .before .before .pre .0))
 
 read-below-requires : tie.Need-read-below-requires Inv-loop μ-loop
 read-below-requires c κs = search needs
@@ -52,9 +51,8 @@ same-length c = search needs
 
 returns : tie.Need-returns Inv-loop μ-loop
 returns c =
-    let bytes = now (c .before .before .before .before .before .before .before .before .args .bytes) in
     read-refused _ _ _ _ _ _ _ _ (c .before .before .before .before .before .loop .inv .1) _ (c .before .before .before .before .loop-test .taken)
-    (c .before .before .before .read-below .ensures ∙ ap (partOf bytes) (c .before .n .given .1))
+    (part-says _ _ _ _ (c .before .before .before .read-below .ensures) (c .before .n .given .1))
 
 add-i : tie.Need-add-i Inv-loop μ-loop
 add-i c = search needs
@@ -64,10 +62,10 @@ loop-less c = search needs
 
 loop-again : tie.Need-loop-again Inv-loop μ-loop
 loop-again c =
-    let bytes = now (c .before .before .before .before .before .before .before .before .args .bytes) in (
+    let read = part-says _ _ _ _ (c .before .before .before .read-below .ensures) (c .before .value .given .1) in (
       simp length-set (omega arith),
       read-more _ _ _ _ _ _ _ _ (c .before .before .before .before .before .loop .inv .1) _ _ (c .before .before .before .before .loop-test .taken)
-          (c .before .before .before .read-below .ensures ∙ ap (partOf bytes) (c .before .value .given .1)),
+          (read .0) (read .1),
     )
 
 same-length-2 : tie.Need-same-length-2 Inv-loop μ-loop

@@ -17,7 +17,7 @@ abbrev μ-loop : tie.MeasureT-loop
 μ-loop bytes at count rows₀ counts₀ next₀ t₀ rows counts next t = count - t
 
 loop-holds : tie.Need-loop-holds Inv-loop μ-loop
-loop-holds c = (c .before .before .pre .0, refl, read-none _ _ _ _ _ (c .before .before .pre .1))
+loop-holds c = (c .before .before .pre .1, refl, read-none _ _ _ _ _ (c .before .before .pre .0) (c .before .before .pre .2))
 
 read-term-requires : tie.Need-read-term-requires Inv-loop μ-loop
 read-term-requires c κs = search needs

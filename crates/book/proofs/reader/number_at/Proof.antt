@@ -1,8 +1,9 @@
 -- `reader::number_at` meets its contract: what the reader of numbers answers is the model's outcome, and the test
 -- compares with the limit. Assumes nothing.
 use borrow.Author.Needs.{needs}
+use borrow.Author.Tests.{lt-ltb, le-ltb}
 use denote.Ref.{now}
-use Rattle.book.proofs.reader.Below.{number-answered, below-held, below-broken, below-refused}
+use Rattle.book.proofs.reader.Below.{part-answered}
 use Rattle.book.proofs.reader.number_at.Statement.{statement}
 use Rattle.book.proofs.reader.number_at.Tie as tie
 
@@ -22,23 +23,19 @@ returns : tie.Need-returns
 returns c =
     let known = c .before .before in
     let a = known .before .before .before .before .args in
-    below-held _ _ _ _ _ (number-answered (now (a .bytes)) (a .at) (known .before .before .read .ensures .0) (known .value .given .1)) (c .if1 .taken)
+    rw (lt-ltb _ _ (c .if1 .taken)) at (part-answered (now (a .bytes)) (a .at) (a .limit) (a .refusal) (known .before .before .read .ensures .0) (known .value .given .1))
 
 returns-2 : tie.Need-returns-2
 returns-2 c =
     let known = c .before .before in
     let a = known .before .before .before .before .args in
-    below-broken _ _ _ _ _ (number-answered (now (a .bytes)) (a .at) (known .before .before .read .ensures .0) (known .value .given .1)) (c .if1 .left)
+    rw (le-ltb _ _ (c .if1 .left)) at (part-answered (now (a .bytes)) (a .at) (a .limit) (a .refusal) (known .before .before .read .ensures .0) (known .value .given .1))
 
 returns-3 : tie.Need-returns-3
-returns-3 c =
-    let a = c .before .before .before .before .args in
-    below-refused _ _ _ _ (number-answered (now (a .bytes)) (a .at) (c .before .before .read .ensures .0) (c .enum-told .given .1))
+returns-3 c = part-answered _ _ _ _ (c .before .before .read .ensures .0) (c .enum-told .given .1)
 
 returns-4 : tie.Need-returns-4
-returns-4 c =
-    let a = c .before .before .before .before .args in
-    below-refused _ _ _ _ (number-answered (now (a .bytes)) (a .at) (c .before .before .read .ensures .0) (c .enum-told2 .given .1))
+returns-4 c = part-answered _ _ _ _ (c .before .before .read .ensures .0) (c .enum-told2 .given .1)
 
 pub number-at-spec : {M : Type 1} → statement M
 number-at-spec =

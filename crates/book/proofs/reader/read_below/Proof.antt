@@ -38,7 +38,7 @@ use denote.Triple.Table.{entered, cited}
 use denote.Triple.Walked.{says, Stays, stay-none, stay-none-slice, walkOf, goes-none, goes-none-slice, Walks, ends-at, walked, walk-meets}
 use denote.Exit.{yes}
 use denote.Triple.Clauses.{ensured, lasts}
-use Rattle.book.specs.reader.Below.{parseBelow, partOf, unread}
+use Rattle.book.specs.reader.Below.{partAt}
 use Rattle.book.specs.declared.reader.Reader.{Reader}
 use Rattle.book.specs.declared.reader.Part.{Part}
 use Rattle.book.proofs.reader.Reader as T
@@ -90,7 +90,7 @@ module _ {M : Type 1} (𝓤 : URA M) (H : Heap 𝓤) (A : Atoms 𝓤) (W : Given
   Made r = (r .src ≡ s) × (r .at ≡ n)
 
   abbrev SaidAt : Reader → Part → Type 0
-  SaidAt r p = parseBelow m k (unread r) ≡ partOf (now (r .src)) p
+  SaidAt r p = p ≡ partAt (now (r .src)) (r .at) m k
 
   abbrev Said : Part → Type 0
   Said = SaidAt (record { src = s; at = n })

@@ -2,10 +2,10 @@
 -- as a book.
 -- Here are the definitions that its contracts cite, by module. Assumes nothing.
 --
--- reader  the numbers of a book, each read by a reader at its position
+-- parse   a number, and the parts of a term, at a position of the bytes; what a reader's functions answer
 -- decode  a book's bytes into term rows
 -- encode  term rows into a book's bytes
 
-pub mod reader
+pub mod parse
 pub mod decode
 pub mod encode

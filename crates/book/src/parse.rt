@@ -1,112 +1,168 @@
-// Decoding a book, part by part and in document 01's order: in a term symbol (4), count (4), rule 6, arguments (5); then all
-// terms. Each part starts at a position of the bytes and gives the position after it, or a refusal (specs/decode/Parts.antt). Its
-// numbers are read through a reader (module reader).
+// A number, and the parts of a term in document 01's order: symbol (4), count (4), rule 6, arguments (5). Each is read at a position
+// of a book's bytes, and gives the position behind it, or a refusal (specs/parse/Parts.antt). The parts are the work of the reader of
+// module reader.
 
 ghost use mathlib.Core.Path.{_≡_};
-ghost use mathlib.Core.List.{[]};
-ghost use Prim.Native.Nat.{_+_, _*_, _≤_};
-ghost use lib.ListN.{length, drop, replicate};
+ghost use Prim.Native.Nat.{suc, _+_, _*_, _≤_};
+ghost use lib.ListN.{length, drop};
 ghost use Rattle.model.specs.Limits.{maxArity, maxSymbol};
 ghost use Rattle.model.specs.Area.{termWords};
-ghost use Rattle.model.specs.BookBytes.{parseArguments, parseTerms};
-ghost use Rattle.book.specs.decode.Parts.{parseCounted, parseTerm, AdvanceOf, ArgumentsIn, TermIn, BookIn};
-use crate::reader::Part;
-use crate::reader::read_below;
+ghost use Rattle.model.specs.BookBytes.{andThen, parseArguments};
+ghost use Rattle.book.specs.parse.Below.{partAt};
+ghost use Rattle.book.specs.parse.Parts.{refusedAt, advanceOf, headRead, parseNodeOf, AdvanceOf, SymbolRead, CountRead, ArgumentsIn, RowIn};
 
 // A count of arguments, and a term's first number (0, or its symbol plus 1), are below these.
 const COUNTS: u32 = layout::limits::MAX_ARITY as u32 + 1;
 
 const FIRST_NUMBERS: u32 = layout::limits::SYMBOLS as u32 + 1;
 
-// The position after a part whose contents went into the rows, or a refusal.
+// A number and the position after it, or a refusal.
+pub enum Part {
+    Value { value: u32, next: usize },
+    Refused(u32),
+}
+
+// The position after a term, or all terms, whose contents went into the rows, or a refusal.
 pub enum Advance {
     Next(usize),
     Refused(u32),
 }
 
-// The `count` arguments of term `t`, into its row.
-fn read_arguments(bytes: &[u8], at: usize, t: u32, count: u32, rows: &mut [u32]) -> Advance
-    requires { ⌜ (at ≤ length (now bytes)) × (termWords * t + termWords ≤ length (now rows)) × (count ≤ maxArity) ⌝ }
-    ensures { λ r. ⌜ AdvanceOf (now (bytes .entry)) (parseArguments t count (drop at (now (bytes .entry)))) (ArgumentsIn t count (now (rows .entry)) (now (rows .exit))) r ⌝ }
+// A position in a term: where the next number stands, the refusal (0 while there is none), and what was read before it, the
+// term's first number and its count.
+pub struct Position {
+    pub next: usize,
+    pub refusal: u32,
+    pub first: u32,
+    pub count: u32,
+}
+
+// The number at position `at`: it is below `limit`, else the refusal `refusal`.
+pub fn read_below(bytes: &[u8], at: usize, limit: u32, refusal: u32) -> Part
+    ensures { λ r. ⌜ r ≡ partAt (now (bytes .entry)) at limit refusal ⌝ }
 {
-    let mut next = at;
+    match leb128::read(bytes, at) {
+        leb128::Decoded::Number { value, next } => {
+            if value < limit {
+                Part::Value { value, next }
+            } else {
+                Part::Refused(refusal)
+            }
+        }
+        leb128::Decoded::Cut => Part::Refused(1),
+        leb128::Decoded::Invalid => Part::Refused(2),
+    }
+}
+
+// The position in a term that is refused.
+fn refused(refusal: u32) -> Position
+    ensures { λ r. ⌜ r ≡ refusedAt refusal ⌝ }
+{
+    Position {
+        next: 0,
+        refusal,
+        first: 0,
+        count: 0,
+    }
+}
+
+// The first number of a term that begins at `at`.
+pub fn symbol_at(bytes: &[u8], at: Position) -> Position
+    ensures { λ r. ⌜ SymbolRead (now (bytes .entry)) (at .next) r ⌝ }
+{
+    match read_below(bytes, at.next, FIRST_NUMBERS, 4) {
+        Part::Value { value, next } => Position {
+            next,
+            refusal: 0,
+            first: value,
+            count: 0,
+        },
+        Part::Refused(n) => refused(n),
+    }
+}
+
+// The count of a term whose first number was read, noted for its symbol. A variable has none.
+pub fn count_at(bytes: &[u8], at: Position, counts: &mut [u8; layout::limits::SYMBOLS]) -> Position
+    requires { ⌜ (at .next ≤ length (now bytes)) × (at .first ≤ suc maxSymbol) ⌝ }
+    ensures { λ r. ⌜ CountRead (now (bytes .entry)) (now (counts .entry)) (now (counts .exit)) at r ⌝ }
+{
+    if at.refusal != 0 {
+        return refused(at.refusal);
+    }
+    if at.first == 0 {
+        return Position {
+            next: at.next,
+            refusal: 0,
+            first: 0,
+            count: 0,
+        };
+    }
+    match read_below(bytes, at.next, COUNTS, 4) {
+        Part::Value { value, next } => {
+            if !layout::limits::note_count(counts, (at.first - 1) as usize, value as u8) {
+                return refused(6);
+            }
+            Position {
+                next,
+                refusal: 0,
+                first: at.first,
+                count: value,
+            }
+        }
+        Part::Refused(n) => refused(n),
+    }
+}
+
+// The arguments of term `t`, as many as its count, into its row.
+fn read_arguments(bytes: &[u8], at: Position, t: u32, rows: &mut [u32]) -> Position
+    requires { ⌜ (at .next ≤ length (now bytes)) × (at .count ≤ maxArity) × (termWords * t + termWords ≤ length (now rows)) ⌝ }
+    ensures { λ r. ⌜ AdvanceOf (now (bytes .entry)) (parseArguments t (at .count) (drop (at .next) (now (bytes .entry)))) (ArgumentsIn t (at .count) (now (rows .entry)) (now (rows .exit))) (advanceOf r) ⌝ }
+{
+    let mut next = at.next;
     let mut i = 0;
-    let first = layout::limits::TERM_WORDS * (t as usize) + 2;
+    let count = at.count;
+    let place = layout::limits::TERM_WORDS * (t as usize) + 2;
     while i < count {
         match read_below(bytes, next, t, 5) {
             Part::Value { value, next: after } => {
-                rows[first + (i as usize)] = value;
+                rows[place + (i as usize)] = value;
                 next = after;
             }
-            Part::Refused(n) => return Advance::Refused(n),
+            Part::Refused(n) => return refused(n),
         }
         i += 1;
     }
-    Advance::Next(next)
-}
-
-// Term `t` of symbol `s`, from its count on, into its row.
-fn read_app(
-    bytes: &[u8],
-    at: usize,
-    t: u32,
-    s: u32,
-    counts: &mut [u8; layout::limits::SYMBOLS],
-    rows: &mut [u32],
-) -> Advance
-    requires { ⌜ (termWords * t + termWords ≤ length (now rows)) × (s ≤ maxSymbol) ⌝ }
-    ensures { λ r. ⌜ AdvanceOf (now (bytes .entry)) (parseCounted (now (counts .entry)) t s (drop at (now (bytes .entry)))) (TermIn t (now (counts .entry)) (now (counts .exit)) (now (rows .entry)) (now (rows .exit))) r ⌝ }
-{
-    match read_below(bytes, at, COUNTS, 4) {
-        Part::Value { value, next } => {
-            if !layout::limits::note_count(counts, s as usize, value as u8) {
-                return Advance::Refused(6);
-            }
-            let place = layout::limits::TERM_WORDS * (t as usize);
-            rows[place] = s + 1;
-            rows[place + 1] = value;
-            read_arguments(bytes, next, t, value, rows)
-        }
-        Part::Refused(n) => Advance::Refused(n),
+    Position {
+        next,
+        refusal: 0,
+        first: at.first,
+        count,
     }
 }
 
-// Term `t`, into its row, which stays as it is where the term is a variable.
-fn read_term(
-    bytes: &[u8],
-    at: usize,
-    t: u32,
-    counts: &mut [u8; layout::limits::SYMBOLS],
-    rows: &mut [u32],
-) -> Advance
-    requires { ⌜ termWords * t + termWords ≤ length (now rows) ⌝ }
-    ensures { λ r. ⌜ AdvanceOf (now (bytes .entry)) (parseTerm (now (counts .entry)) t (drop at (now (bytes .entry)))) (TermIn t (now (counts .entry)) (now (counts .exit)) (now (rows .entry)) (now (rows .exit))) r ⌝ }
+// The arguments of term `t`, whose count was read, and its row, which stays as it is where the term is a variable.
+pub fn arguments_at(bytes: &[u8], at: Position, t: u32, rows: &mut [u32]) -> Position
+    requires { ⌜ (at .next ≤ length (now bytes)) × (at .count ≤ maxArity) × (termWords * t + termWords ≤ length (now rows)) ⌝ }
+    ensures { λ r. ⌜ AdvanceOf (now (bytes .entry)) (andThen (headRead (now (bytes .entry)) at) (parseNodeOf t)) (RowIn t at (now (rows .entry)) (now (rows .exit))) (advanceOf r) ⌝ }
 {
-    match read_below(bytes, at, FIRST_NUMBERS, 4) {
-        Part::Value { value, next } => {
-            if value == 0 {
-                return Advance::Next(next);
-            }
-            read_app(bytes, next, t, value - 1, counts, rows)
-        }
-        Part::Refused(n) => Advance::Refused(n),
+    if at.refusal != 0 {
+        return at;
     }
+    if at.first == 0 {
+        return at;
+    }
+    let place = layout::limits::TERM_WORDS * (t as usize);
+    rows[place] = at.first;
+    rows[place + 1] = at.count;
+    read_arguments(bytes, at, t, rows)
 }
 
-// The `count` terms of a book, into rows that are all zero.
-pub fn read_terms(bytes: &[u8], at: usize, count: u32, rows: &mut [u32]) -> Advance
-    requires { ⌜ (at ≤ length (now bytes)) × (termWords * count ≤ length (now rows)) × (now rows ≡ replicate (length (now rows)) 0) ⌝ }
-    ensures { λ r. ⌜ AdvanceOf (now (bytes .entry)) (parseTerms count [] (drop at (now (bytes .entry)))) (BookIn count (length (now (rows .entry))) (now (rows .exit))) r ⌝ }
+// The answer of a reader at its end: the position behind the term, or the refusal.
+pub fn ended(at: Position) -> Advance
+    ensures { λ r. ⌜ r ≡ advanceOf at ⌝ }
 {
-    let mut counts = [0u8; layout::limits::SYMBOLS];
-    let mut next = at;
-    let mut t = 0;
-    while t < count {
-        match read_term(bytes, next, t, &mut counts, rows) {
-            Advance::Next(after) => next = after,
-            Advance::Refused(n) => return Advance::Refused(n),
-        }
-        t += 1;
+    if at.refusal != 0 {
+        return Advance::Refused(at.refusal);
     }
-    Advance::Next(next)
+    Advance::Next(at.next)
 }

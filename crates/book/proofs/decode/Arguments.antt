@@ -10,8 +10,8 @@ use lib.Seq.{sets}
 use Rattle.model.specs.Area.{termWords}
 use Rattle.model.specs.BookBytes.{parsed, unparsed, parseArguments}
 use Rattle.book.specs.declared.parse.Advance.the-variants.{Next}
-use Rattle.book.specs.reader.Below.{parseBelow}
-use Rattle.book.specs.decode.Parts.{AdvanceOf, ArgumentsIn}
+use Rattle.book.specs.parse.Below.{parseBelow}
+use Rattle.book.specs.parse.Parts.{AdvanceOf, ArgumentsIn}
 use Rattle.book.proofs.decode.Parsing.{behind, behind-none, behind-more, behind-refused, behind-last}
 use Rattle.book.proofs.decode.TermRows.{sets-more}
 

@@ -1,4 +1,4 @@
--- The parts of decoding (specs/decode/Parts.antt) against the definition of decoding in crate model. Assumes nothing.
+-- The parts of decoding (specs/parse/Parts.antt) against the definition of decoding in crate model. Assumes nothing.
 use mathlib.Core.Path.{_≡_, refl, sym, _∙_}
 use mathlib.Core.List.{List, [], _∷_, _++_, append-nil}
 use mathlib.Core.Bool.{Bool, true, false}
@@ -8,7 +8,7 @@ use borrow.Author.Tests.{leb-true, leb-false, lt-ltb, le-ltb}
 use lib.Seq.{append-snoc}
 use lib.Dec.{ltb, leb}
 use Rattle.model.specs.BookBytes.{Parsed, parsed, unparsed, andThen, need, parseNumber, parseArguments}
-use Rattle.book.specs.reader.Below.{parseBelow}
+use Rattle.book.specs.parse.Below.{parseBelow}
 use Rattle.book.proofs.reader.Below.{below-then}
 
 -- ---- one part after another

@@ -14,7 +14,7 @@ use Rattle.theory.proofs.Lists.Laws.{concatMap-append}
 use Rattle.theory.proofs.Lists.Rows.{length-padded}
 use Rattle.layout.specs.limits.Counts.{Suits}
 use Rattle.book.specs.decode.Rows.{bookRows}
-use Rattle.book.specs.decode.Parts.{nodeRow}
+use Rattle.book.specs.parse.Parts.{nodeRow}
 
 -- ---- stores
 

@@ -14,8 +14,8 @@ use Rattle.theory.proofs.Book.Opening.{book-positive}
 use Rattle.book.specs.declared.parse.Advance.{Advance}
 use Rattle.book.specs.declared.parse.Advance.the-variants.{Next, Refused}
 use Rattle.book.specs.decode.Rows.{bookRows, decodedRefusal, decodedBook}
-use Rattle.book.specs.reader.Below.{parseBelow}
-use Rattle.book.specs.decode.Parts.{AdvanceOf, BookIn}
+use Rattle.book.specs.parse.Below.{parseBelow}
+use Rattle.book.specs.parse.Parts.{AdvanceOf, BookIn}
 use Rattle.book.proofs.decode.Parsing.{up-to-then}
 
 -- ---- the outcomes

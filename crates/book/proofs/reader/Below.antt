@@ -14,9 +14,9 @@ use Rattle.leb128.specs.declared.Decoded.{Decoded}
 use Rattle.leb128.specs.declared.Decoded.the-variants.{Number, Cut, Invalid}
 use Rattle.leb128.proofs.Laws.{rest-is-a-tail}
 use Rattle.model.specs.BookBytes.{Parsed, parsed, unparsed, andThen, need, fromRead, parseNumber}
-use Rattle.book.specs.declared.reader.Part.{Part}
-use Rattle.book.specs.declared.reader.Part.the-variants.{Value, Refused}
-use Rattle.book.specs.reader.Below.{parseBelow, partOf, partAt}
+use Rattle.book.specs.declared.parse.Part.{Part}
+use Rattle.book.specs.declared.parse.Part.the-variants.{Value, Refused}
+use Rattle.book.specs.parse.Below.{parseBelow, partOf, partAt}
 
 -- ---- numbers at a position
 
@@ -97,6 +97,20 @@ module _ (limit k : ℕ) (bytes : List ℕ) where
       go : (p : Parsed ℕ) → parseNumber bytes ≡ p → n < limit
       go (parsed m l) q = test m l (ltb m limit) refl (rw q at e)
       go (unparsed m) q = let d : unparsed m ≡ parsed n rest = rw q at e in let z : _≡_ {A = ℕ} 0 1 = cc in absurd (omega arith)
+
+  -- and a refusal is not 0
+  pub below-positive : (m : ℕ) → 0 < k → parseBelow limit k bytes ≡ unparsed m → 0 < m
+  unfolding parseBelow parseNumber fromRead andThen need
+  below-positive m l = go (read maxGroups maxNumber bytes)
+    where
+      test : (n : ℕ) (rest : List ℕ) (b : Bool) → need b k (parsed n rest) ≡ unparsed m → 0 < m
+      test n rest true d = let z : _≡_ {A = ℕ} 0 1 = cc in absurd (omega arith)
+      test n rest false d = let same : k ≡ m = cc in omega (arith, l)
+
+      go : (r : Read) → andThen (fromRead r) (λ n rest. need (ltb n limit) k (parsed n rest)) ≡ unparsed m → 0 < m
+      go (number n rest) d = test n rest (ltb n limit) d
+      go cut d = let same : _≡_ {A = ℕ} 1 m = cc in omega arith
+      go invalid d = let same : _≡_ {A = ℕ} 2 m = cc in omega arith
 
   -- a number that is needed to be below the limit, and what follows it
   pub below-then : {A : Type 0} (f : ℕ → List ℕ → Parsed A)

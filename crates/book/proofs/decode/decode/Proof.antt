@@ -6,7 +6,7 @@ use borrow.Author.Needs.{needs}
 use denote.Ref.{now}
 use lib.ListN.{length}
 use Rattle.model.specs.Area.{termWords}
-use Rattle.book.specs.declared.reader.Part.the-variants.{Value}
+use Rattle.book.specs.declared.parse.Part.the-variants.{Value}
 use Rattle.book.proofs.reader.Below.{Says, part-says, below-small}
 use Rattle.book.proofs.decode.Whole.{zeros-length, refused-count, refused-terms, refused-end, whole-book}
 use Rattle.book.proofs.decode.decode.Statement.{statement}

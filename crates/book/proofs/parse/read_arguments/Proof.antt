@@ -5,22 +5,23 @@ use Prim.Native.Nat.{_-_}
 use native.Mathlib.Omega.{arith}
 use borrow.Author.Needs.{needs}
 use lib.ListN.{length, length-set}
-use Rattle.book.proofs.reader.Below.{part-says}
+use Rattle.book.proofs.reader.Below.{part-says, below-positive}
+use Rattle.book.proofs.decode.Term.{advance-refused}
 use Rattle.book.proofs.decode.Arguments.{Read, read-none, read-more, read-refused, read-all}
 use Rattle.book.proofs.parse.read_arguments.Statement.{statement}
 use Rattle.book.proofs.parse.read_arguments.Tie as tie
 
 abbrev Inv-loop : tie.InvT-loop
-Inv-loop bytes at t count rows₀ next₀ i₀ first rows next i = (length rows ≡ length rows₀) × Read bytes at t count rows₀ rows next i
+Inv-loop bytes at t rows₀ next₀ i₀ count place rows next i = (length rows ≡ length rows₀) × Read bytes (at .next) t (at .count) rows₀ rows next i
 
 abbrev μ-loop : tie.MeasureT-loop
-μ-loop bytes at t count rows₀ next₀ i₀ first rows next i = count - i
+μ-loop bytes at t rows₀ next₀ i₀ count place rows next i = at .count - i
 
-mul-first : tie.Need-mul-first Inv-loop μ-loop
-mul-first c = search needs
+mul-place : tie.Need-mul-place Inv-loop μ-loop
+mul-place c = search needs
 
-add-first : tie.Need-add-first Inv-loop μ-loop
-add-first c = search needs
+add-place : tie.Need-add-place Inv-loop μ-loop
+add-place c = search needs
 
 loop-holds : tie.Need-loop-holds Inv-loop μ-loop
 loop-holds c = (refl, read-none _ _ _ _ _ (c .before .before .pre .0))
@@ -49,10 +50,16 @@ enum-known-n c = search needs
 same-length : tie.Need-same-length Inv-loop μ-loop
 same-length c = search needs
 
+refused-requires : tie.Need-refused-requires Inv-loop μ-loop
+refused-requires c κs = search needs
+
 returns : tie.Need-returns Inv-loop μ-loop
 returns c =
-    read-refused _ _ _ _ _ _ _ _ (c .before .before .before .before .before .loop .inv .1) _ (c .before .before .before .before .loop-test .taken)
-    (part-says _ _ _ _ (c .before .before .before .read-below .ensures) (c .before .n .given .1))
+    let told = c .before in
+    let no = part-says _ _ _ _ (told .before .before .before .read-below .ensures) (told .before .n .given .1) in
+    rw (c .refused .ensures)
+    (advance-refused _ _ _ _ _ (below-positive _ 5 _ _ (omega arith) no)
+    (read-refused _ _ _ _ _ _ _ _ (told .before .before .before .before .before .loop .inv .1) _ (told .before .before .before .before .loop-test .taken) no))
 
 add-i : tie.Need-add-i Inv-loop μ-loop
 add-i c = search needs
@@ -80,8 +87,8 @@ read-arguments-spec =
     (tie.spec
     Inv-loop
     μ-loop
-    mul-first
-    add-first
+    mul-place
+    add-place
     loop-holds
     read-below-requires
     enum-known-value
@@ -90,6 +97,7 @@ read-arguments-spec =
     mul-rows
     slice-write-rows
     enum-known-n
+    refused-requires
     same-length returns
     add-i
     loop-less

@@ -4,8 +4,8 @@ use Prim.Native.Nat.{ℕ, _-_}
 use lib.ListN.{length, drop}
 use lib.Dec.{ltb}
 use Rattle.model.specs.BookBytes.{Parsed, parsed, unparsed, andThen, need, parseNumber}
-use Rattle.book.specs.declared.reader.Part.{Part}
-use Rattle.book.specs.declared.reader.Part.the-variants.{Value, Refused}
+use Rattle.book.specs.declared.parse.Part.{Part}
+use Rattle.book.specs.declared.parse.Part.the-variants.{Value, Refused}
 
 -- A number below the limit (else the refusal k): refusals 1, 2 and k.
 unfoldable pub parseBelow : ℕ → ℕ → List ℕ → Parsed ℕ

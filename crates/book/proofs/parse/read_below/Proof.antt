@@ -1,11 +1,11 @@
--- `reader::number_at` meets its contract: what the reader of numbers answers is the model's outcome, and the test
+-- `parse::read_below` meets its contract: what the reader of numbers answers is the model's outcome, and the test
 -- compares with the limit. Assumes nothing.
 use borrow.Author.Needs.{needs}
 use borrow.Author.Tests.{lt-ltb, le-ltb}
 use denote.Ref.{now}
 use Rattle.book.proofs.reader.Below.{part-answered}
-use Rattle.book.proofs.reader.number_at.Statement.{statement}
-use Rattle.book.proofs.reader.number_at.Tie as tie
+use Rattle.book.proofs.parse.read_below.Statement.{statement}
+use Rattle.book.proofs.parse.read_below.Tie as tie
 
 read-requires : tie.Need-read-requires
 read-requires c κs = search needs
@@ -37,8 +37,8 @@ returns-3 c = part-answered _ _ _ _ (c .before .before .read .ensures .0) (c .en
 returns-4 : tie.Need-returns-4
 returns-4 c = part-answered _ _ _ _ (c .before .before .read .ensures .0) (c .enum-told2 .given .1)
 
-pub number-at-spec : {M : Type 1} → statement M
-number-at-spec =
+pub read-below-spec : {M : Type 1} → statement M
+read-below-spec =
     tie.close
     (tie.spec
     read-requires

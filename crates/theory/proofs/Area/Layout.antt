@@ -1,11 +1,11 @@
 -- The words of a sound state: how many there are and what stands where. Assumes nothing.
-use mathlib.Core.Path.{_≡_, refl, _∙_}
+use mathlib.Core.Path.{_≡_, refl, ap, _∙_}
 use mathlib.Core.List.{List, [], _∷_, _++_, map}
 use mathlib.Core.Option.{none}
-use Prim.Native.Nat.{ℕ, _+_, _*_, _≤_, _<_, zero-le}
+use Prim.Native.Nat.{ℕ, _+_, _*_, _-_, _≤_, _<_, zero-le}
 use native.Mathlib.Nat.{add-assoc}
 use native.Mathlib.Omega.{arith}
-use lib.ListN.{length, getD, length-append, length-map, List·getD-append, List·getD-map}
+use lib.ListN.{length, getD, length-append, length-map, List·getD-append, List·getD-eq-default, List·getD-map}
 use Rattle.model.specs.Limits.{Limits, maxArity}
 use Rattle.model.specs.Lists.{concatMap, padded}
 use Rattle.model.specs.Term.{Node, var, arguments, root, Book, Bindings}
@@ -122,3 +122,38 @@ module _ (lim : Limits) (s : State) (f : SoundFacts lim s) where
   entry-words i j l m =
       rw (add-assoc (entriesAt lim)) (behind-lines (entryRowWords * i + j) ∙
       padded-row entryWords entryRowWords (holeAt 0 0 0) (entryRowWords * s .capacity) (s .entries) wide-entries i j l m)
+
+  -- the words behind those of the terms, of their bindings, of the lines and of the entries are 0
+  pub nodes-zero : (i : ℕ) → headerWords + termWords * length (s .book) ≤ i → i < bindingsAt lim → getD (areaWords lim s) i 0 ≡ 0
+  nodes-zero i l m =
+      let e : i ≡ headerWords + (i - headerWords) = omega arith in
+      let n : length (concatMap nodeWords (s .book)) ≡ termWords * length (s .book) =
+      length-rows nodeWords termWords var (s .book) wide-nodes in
+      ap (λ w. getD (areaWords lim s) w 0) e ∙ behind-header (i - headerWords) ∙
+      List·getD-append nodesPart _ 0 (i - headerWords) (rw length-nodes (omega arith)) ∙
+      getD-padded _ (concatMap nodeWords (s .book)) (i - headerWords) ∙
+      List·getD-eq-default (concatMap nodeWords (s .book)) 0 (omega arith)
+
+  pub bound-zero : (i : ℕ) → bindingsAt lim + length (s .book) ≤ i → i < linesAt lim → getD (areaWords lim s) i 0 ≡ 0
+  bound-zero i l m =
+      let e : i ≡ bindingsAt lim + (i - bindingsAt lim) = omega arith in
+      ap (λ w. getD (areaWords lim s) w 0) e ∙ behind-nodes (i - bindingsAt lim) ∙
+      List·getD-append boundPart _ 0 (i - bindingsAt lim) (rw length-bound (omega arith)) ∙
+      getD-padded _ (map bindingWord (s .bound)) (i - bindingsAt lim) ∙
+      List·getD-eq-default (map bindingWord (s .bound)) 0 (rw length-map (omega (arith, f .formed .same-length)))
+
+  pub lines-zero : (i : ℕ) → linesAt lim + length (s .lines) ≤ i → i < entriesAt lim → getD (areaWords lim s) i 0 ≡ 0
+  lines-zero i l m =
+      let e : i ≡ linesAt lim + (i - linesAt lim) = omega arith in
+      ap (λ w. getD (areaWords lim s) w 0) e ∙ behind-bound (i - linesAt lim) ∙
+      List·getD-append linesPart _ 0 (i - linesAt lim) (rw length-lines (omega arith)) ∙
+      getD-padded _ (s .lines) (i - linesAt lim) ∙ List·getD-eq-default (s .lines) 0 (omega arith)
+
+  pub entries-zero : (i : ℕ) → entriesAt lim + entryRowWords * length (s .entries) ≤ i → getD (areaWords lim s) i 0 ≡ 0
+  entries-zero i l =
+      let e : i ≡ entriesAt lim + (i - entriesAt lim) = omega arith in
+      let n : length (concatMap entryWords (s .entries)) ≡ entryRowWords * length (s .entries) =
+      length-rows entryWords entryRowWords (holeAt 0 0 0) (s .entries) wide-entries in
+      ap (λ w. getD (areaWords lim s) w 0) e ∙ behind-lines (i - entriesAt lim) ∙
+      getD-padded _ (concatMap entryWords (s .entries)) (i - entriesAt lim) ∙
+      List·getD-eq-default (concatMap entryWords (s .entries)) 0 (omega arith)

@@ -40,7 +40,7 @@ module _ (area : List ℕ) where
   stands-first : (i n : ℕ) (xs : List ℕ) → 0 < n → Stands area i n xs → word area i ≡ getD xs 0 0
   stands-first i n xs l h = rw add-zero at (h 0 l)
 
-  stands-drop : (i k n : ℕ) (xs : List ℕ) → Stands area i (k + n) xs → Stands area (i + k) n (drop k xs)
+  pub stands-drop : (i k n : ℕ) (xs : List ℕ) → Stands area i (k + n) xs → Stands area (i + k) n (drop k xs)
   stands-drop i k n xs h j l = rw add-assoc (h (k + j) (omega arith) ∙ sym (getD-drop k xs j 0))
 
   -- a padded list is read back

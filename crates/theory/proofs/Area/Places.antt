@@ -165,7 +165,7 @@ module _ (lim : Limits) (area : List ℕ) where
               let below : n < word area 3 = omega arith in
               let e : linesAt lim + n ≡ i = omega arith in
               subst Right e (sym (line-words lim held f n (omega (arith, held-lines)) ∙ held-line n below))
-          go (inr k) = p .behind-lines i k m ∙ sym (lines-zero lim held f i (omega (arith, held-lines)) m)
+          go (inr k) = p .behind-lines i (omega arith) m ∙ sym (lines-zero lim held f i (omega (arith, held-lines)) m)
 
       entry-right : (i j : ℕ) → i < word area 2 → j < entryRowWords → Right (rowAt lim i + j)
       entry-right i j l m =

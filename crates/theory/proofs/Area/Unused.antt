@@ -163,6 +163,7 @@ module _ (area : List ℕ) where
         behind j (inr m) l =
             let q : i + 2 + j ≡ i + entryRowWords - 1 = omega arith in
             ap (word area) q ∙ sym (getD-at kindPart (word area (i + entryRowWords - 1)) [] 0 j (omega (arith, wide)))
+
         go : Stands area i entryRowWords (entryWords (entryAt area i))
         go zero l = ap (word area) (add-zero i)
         go (suc zero) l = refl

@@ -9,7 +9,7 @@ use Prim.Native.Nat.{ℕ, zero, suc, _+_, _-_, _≤_, _<_}
 use native.Mathlib.Nat.{add-zero}
 use native.Mathlib.Omega.{arith}
 use borrow.Author.Tests.{eqb-true, eqb-false, eq-eqb}
-use lib.ListN.{length, getD, length-append, List·getD-append, List·getD-eq-default}
+use lib.ListN.{length, getD, List·getD-append, List·getD-eq-default}
 use lib.Seq.{getD-at}
 use lib.Dec.{eqb}
 use Rattle.model.specs.Limits.{maxArity}
@@ -67,7 +67,9 @@ module _ (area : List ℕ) where
       where
         go : (b : Bool) → eqb (word area i) 0 ≡ b → Stands area i termWords (nodeWords (nodeBy b))
         go true e j l = zeros-stand i termWords (v (eqb-true (word area i) 0 e)) j l
-        go false e zero l = let more : word area i ≡ suc (word area i - 1) = omega (arith, eqb-false (word area i) 0 e) in ap (word area) (add-zero i) ∙ more
+        go false e zero l =
+            let first : word area i ≡ suc (word area i - 1) = omega (arith, eqb-false (word area i) 0 e) in
+            ap (word area) (add-zero i) ∙ first
         go false e (suc zero) l = sym (length-map-from (word area) (i + 2) (word area (i + 1)))
         go false e (suc (suc j)) l =
             let q : i + suc (suc j) ≡ i + 2 + j = omega arith in
@@ -98,6 +100,7 @@ module _ (area : List ℕ) where
 
   -- THE KIND of an entry at word i, with its symbol, its count and its arguments.
   module _ (i : ℕ) where
+    -- the kind that is read, by whether the word is 0
     abbrev kindBy : Bool → Kind
     kindBy b = cond b hole (common (word area (i + 1)) (wordsAt area (i + 3) (word area (i + 2))))
 
@@ -159,7 +162,8 @@ module _ (area : List ℕ) where
         behind : (j : ℕ) → (j < 3 + maxArity) ⊎ (3 + maxArity ≤ j) → j < 4 + maxArity
             → word area (i + 2 + j) ≡ getD (kindPart ++ word area (i + entryRowWords - 1) ∷ []) j 0
         behind j (inl m) l =
-            kind-places (i + 2) r (λ e w p q. v e w (omega arith) (omega arith)) (λ w p q. z w (omega (arith, count)) (omega arith)) j m ∙ sym (List·getD-append kindPart _ 0 j (omega (arith, wide)))
+            kind-places (i + 2) r (λ e w p q. v e w (omega arith) (omega arith)) (λ w p q. z w (omega (arith, count)) (omega arith)) j m ∙
+            sym (List·getD-append kindPart _ 0 j (omega (arith, wide)))
         behind j (inr m) l =
             let q : i + 2 + j ≡ i + entryRowWords - 1 = omega arith in
             ap (word area) q ∙ sym (getD-at kindPart (word area (i + entryRowWords - 1)) [] 0 j (omega (arith, wide)))

@@ -3,9 +3,9 @@
 // the input and the output.
 
 ghost use mathlib.Core.Path.{_≡_};
-ghost use mathlib.Core.Bool.{true, cond};
+ghost use mathlib.Core.Bool.{cond};
 ghost use Prim.Native.Nat.{_≤_};
-ghost use lib.ListN.{length};
+ghost use lib.ListN.{length, take};
 ghost use Rattle.model.specs.Limits.{office, sessionCapacity};
 ghost use Rattle.model.specs.Area.{areaLength};
 ghost use Rattle.theory.specs.Lengths.{longestSessionReport};
@@ -27,24 +27,28 @@ const REPORT: usize = 24068;
 
 const LINE: usize = 33 + 6 * REPORT;
 
-// Prints the line that a turn shows; false where it cannot be printed.
-fn print(t: Printout, report: &[u8], text: &[u8]) -> bool
+// Prints a text where all before it were printed; false where one of them, or this, cannot be.
+fn print(printed: bool, text: &[u8]) -> bool {
+    if !printed {
+        return false;
+    }
+    io::write_all(STDOUT_FILENO, text)
+}
+
+// The text that a turn shows.
+fn shown<'a>(t: Printout, report: &'a [u8], text: &'a [u8]) -> &'a [u8]
     requires { ⌜ t .size ≤ length (cond (t .report) (now report) (now text)) ⌝ }
+    ensures { λ r. ⌜ now r ≡ take (t .size) (cond (t .report) (now (report .entry)) (now (text .entry))) ⌝ }
 {
     let size = t.size;
     if t.report {
-        return io::write_all(STDOUT_FILENO, &report[..size]);
+        return &report[..size];
     }
-    io::write_all(STDOUT_FILENO, &text[..size])
+    &text[..size]
 }
 
-// Whether every line was printed, and the position at which the session stands.
-struct Progress {
-    printed: bool,
-    at: usize,
-}
-
-// All steps from position `first` on, until the session is over or a line cannot be printed.
+// All steps from position `first` on, until the session is over; the answer is the position there. `opened` says that the opening's
+// line was printed: where a text cannot be printed, none behind it is, but the steps are taken.
 fn steps(
     input: &[u8],
     first: usize,
@@ -52,54 +56,46 @@ fn steps(
     out: &mut [u8],
     report: &mut [u8],
     text: &mut [u8],
-) -> Progress
+    opened: bool,
+) -> usize
     requires output { ⌜ length (now out) ≡ longestSessionReport ⌝ }
     requires lines { ⌜ (length (now report) ≡ lineMost 2 longestSessionReport) × (length (now text) ≡ lineMost 2 longestSessionReport) ⌝ }
-    ensures { λ r. ⌜ (r .printed ≡ true → standing (r .at) (now (area .exit)) (now (out .exit))
-        ≡ endFrom (now (input .entry)) (standing first (now (area .entry)) (now (out .entry)))) ⌝ }
+    ensures { λ r. ⌜ standing r (now (area .exit)) (now (out .exit))
+        ≡ endFrom (now (input .entry)) (standing first (now (area .entry)) (now (out .entry))) ⌝ }
 {
     let mut at = first;
     let mut kept: usize = 0;
+    let mut printed = opened;
     while at < input.len() {
         let t = printing::turns::take_turn(input, at, area, out, report, kept, text);
-        if !print(t, report, text) {
-            return Progress { printed: false, at };
-        }
+        printed = print(printed, shown(t, report, text));
         at = t.next;
         kept = t.kept;
     }
-    Progress { printed: true, at }
+    at
 }
 
-// The opening, and the steps where it is accepted. The area and the output are as long as a session needs, so what is printed is the
-// text of the session (printing specs/whole/Loop.antt: `TextOfSession`).
+// The opening, and the steps where it is accepted; the answer is the position at the end. The area and the output are as long as a
+// session needs, so the texts are those of the session (printing specs/whole/Loop.antt: `TextOfSession`).
 fn run_session(
     input: &[u8],
     area: &mut [u8],
     out: &mut [u8],
     report: &mut [u8],
     text: &mut [u8],
-) -> Progress
+) -> usize
     requires area { ⌜ areaLength office sessionCapacity ≤ length (now area) ⌝ }
     requires output { ⌜ length (now out) ≡ longestSessionReport ⌝ }
     requires lines { ⌜ (length (now report) ≡ lineMost 2 longestSessionReport) × (length (now text) ≡ lineMost 2 longestSessionReport) ⌝ }
-    ensures { λ r. ⌜ (r .printed ≡ true → standing (r .at) (now (area .exit)) (now (out .exit))
-        ≡ sessionEnd (now (input .entry)) (now (area .entry)) (now (out .entry))) ⌝ }
+    ensures { λ r. ⌜ standing r (now (area .exit)) (now (out .exit))
+        ≡ sessionEnd (now (input .entry)) (now (area .entry)) (now (out .entry)) ⌝ }
 {
     let begun = session::steps::open(input, area);
     let n = printing::lines::opening(begun, text);
-    if !io::write_all(STDOUT_FILENO, &text[..n]) {
-        return Progress {
-            printed: false,
-            at: 0,
-        };
-    }
+    let opened = print(true, &text[..n]);
     match begun {
-        Begun::Refused(refusal) => Progress {
-            printed: true,
-            at: input.len(),
-        },
-        Begun::At(first) => steps(input, first, area, out, report, text),
+        Begun::Refused(refusal) => input.len(),
+        Begun::At(first) => steps(input, first, area, out, report, text, opened),
     }
 }
 
@@ -109,7 +105,7 @@ fn run(input: &[u8]) {
     let mut out = [0u8; REPORT];
     let mut report = [0u8; LINE];
     let mut text = [0u8; LINE];
-    let ended = run_session(input, &mut area, &mut out, &mut report, &mut text);
+    let end = run_session(input, &mut area, &mut out, &mut report, &mut text);
 }
 
 fn main() {

@@ -20,7 +20,7 @@ use Rattle.session.specs.steps.Effects.{Start, Effect, start, stepAt, nextOr, f
 use Rattle.session.specs.steps.Lines.{openingLine, lines}
 use Rattle.printing.specs.turns.Turns.{printed}
 use Rattle.printing.specs.whole.Whole.{onward, afterOpening, stepsFrom, allSteps, sessionOnBytes}
-use Rattle.printing.specs.whole.Loop.{Standing, stepFrom, turn, turns, turnsText, endFrom, textFrom, opened, sessionText, TurnByTurn, TextOfSession}
+use Rattle.printing.specs.whole.Loop.{Standing, stepFrom, turn, turns, turnsText, endFrom, textFrom, afterStart, sessionText, TurnByTurn, TextOfSession}
 use Rattle.printing.proofs.whole.Progress.{steps-go-on, goes-behind, past-end}
 use Rattle.printing.proofs.whole.Theorems.{session-on-bytes}
 
@@ -130,10 +130,10 @@ module _ (input : List ℕ) where
       go false t ih = sym (ap linesText (past-end input (suc k) (s .at) (s .area) (s .output) (ltb-false (s .at) (length input) t)))
 
 pub text-of-session : TextOfSession
-unfolding sessionText sessionOnBytes textFrom opened allSteps linesText concatMap
+unfolding sessionText sessionOnBytes textFrom afterStart allSteps linesText concatMap
 text-of-session input area out long room =
     let s : Start = start input area in
     ap (λ x. lineText (openingLine (s .answer)) ++ x)
-    (same-text input (length input) (opened input area out) ∙
+    (same-text input (length input) (afterStart input area out) ∙
     sym (ap linesText (over-at-first input (s .answer) (λ at. allSteps input at (s .area) out) (past-end input (length input) (length input) (s .area) out (omega arith))))) ∙
     ap linesText (session-on-bytes input area out long room)

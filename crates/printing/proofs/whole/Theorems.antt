@@ -2,12 +2,12 @@
 use mathlib.Core.Path.{_≡_, refl, ap, sym, _∙_}
 use mathlib.Core.List.{List, [], _∷_}
 use mathlib.Core.Bool.{Bool, true, false, not, cond}
-use Prim.Native.Nat.{ℕ, _+_, _-_, _≤_}
+use Prim.Native.Nat.{ℕ, suc, _+_, _-_, _≤_, _<_}
 use native.Mathlib.Omega.{arith}
 use lib.ListN.{length, take, drop, length-drop}
-use lib.Seq.{drop-drop}
+use lib.Seq.{drop-drop, take-all, length-take-le}
 use lib.Dec.{T, eqb, leb}
-use borrow.Author.Tests.{le-leb}
+use borrow.Author.Tests.{le-leb, lt-leb, leb-true, leb-false}
 use Rattle.leb128.specs.Number.{maxGroups, maxNumber}
 use Rattle.leb128.specs.Answer.{readAt}
 use Rattle.leb128.specs.declared.Decoded.{Decoded}
@@ -28,7 +28,7 @@ use Rattle.theory.proofs.Book.Opening.{book-positive}
 use Rattle.book.proofs.reader.Below.{numberOf as readOf, number-read}
 use Rattle.session.specs.steps.Effects.{Start, notBegun, begun, openBook, start}
 use Rattle.session.specs.steps.Lines.{openingLine}
-use Rattle.printing.specs.whole.Whole.{afterOpening, allSteps, sessionOnBytes, SessionOnBytes}
+use Rattle.printing.specs.whole.Whole.{afterOpening, allSteps, sessionOnBytes, SessionOnBytes, CutTooLong}
 use Rattle.printing.proofs.whole.Progress.{steps-enough}
 use Rattle.printing.proofs.whole.Steps.{Carries, same-steps}
 pub use Rattle.printing.proofs.whole.Progress.{steps-go-on, one-by-one}
@@ -90,3 +90,18 @@ session-on-bytes input area out long room = sym (go (leb (length input) maxSessi
         ap (λ p. Model.orStop p withLength) (number-read input 0) ∙
         same-book input area out long room (readAt maxGroups maxNumber input 0)
     go false = refl
+
+-- a session that is too long prints 4
+too-long : (input : List ℕ) → maxSession < length input → session input ≡ (4 ∷ []) ∷ []
+unfolding session
+too-long input h = rw (lt-leb (length input) maxSession h)
+
+pub cut-too-long : CutTooLong
+cut-too-long input = go (leb (length input) maxSession) refl
+  where
+    go : (t : Bool) → leb (length input) maxSession ≡ t → session (take (suc maxSession) input) ≡ session input
+    go true e = ap session (take-all (suc maxSession) input (omega (arith, leb-true (length input) maxSession e)))
+    go false e =
+        let long : maxSession < length input = leb-false (length input) maxSession e in
+        let cut : length (take (suc maxSession) input) ≡ suc maxSession = length-take-le (suc maxSession) input long in
+        too-long (take (suc maxSession) input) (omega (arith, cut)) ∙ sym (too-long input long)

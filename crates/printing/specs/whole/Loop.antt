@@ -50,15 +50,15 @@ module _ (input : List ℕ) where
   textFrom s = turnsText (length input) s
 
   -- Where the opening leads: to the first step, and to the end of the input where it is refused.
-  unfoldable pub opened : List ℕ → List ℕ → Standing
-  opened area out = let s = start input area in standing (firstOr (length input) (s .answer)) (s .area) out
+  unfoldable pub afterStart : List ℕ → List ℕ → Standing
+  afterStart area out = let s = start input area in standing (firstOr (length input) (s .answer)) (s .area) out
 
   -- The whole session on an area and an output: where it ends, and its text, the opening's line and all that the turns print.
   unfoldable pub sessionEnd : List ℕ → List ℕ → Standing
-  sessionEnd area out = endFrom (opened area out)
+  sessionEnd area out = endFrom (afterStart area out)
 
   unfoldable pub sessionText : List ℕ → List ℕ → List ℕ
-  sessionText area out = lineText (openingLine (start input area .answer)) ++ textFrom (opened area out)
+  sessionText area out = lineText (openingLine (start input area .answer)) ++ textFrom (afterStart area out)
 
 -- STATEMENTS. All turns with no count of them: none at the end of the input, and before it one turn and then all others. At the end
 -- no input is left.

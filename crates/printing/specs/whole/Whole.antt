@@ -3,8 +3,8 @@
 use mathlib.Core.Path.{_≡_}
 use mathlib.Core.List.{List, [], _∷_, _++_}
 use Prim.Native.Nat.{ℕ, zero, suc, _<_, _≤_}
-use lib.ListN.{length}
-use Rattle.model.specs.Limits.{office, sessionCapacity}
+use lib.ListN.{length, take}
+use Rattle.model.specs.Limits.{office, maxSession, sessionCapacity}
 use Rattle.model.specs.Area.{areaLength}
 use Rattle.model.specs.Session.{Printed, session}
 use Rattle.theory.specs.Lengths.{longestSessionReport}
@@ -55,6 +55,10 @@ OneByOne = (input : List ℕ) (at : ℕ) (area out : List ℕ) → let s = stepA
 abbrev pub SessionOnBytes : Type 0
 SessionOnBytes = (input area out : List ℕ) → areaLength office sessionCapacity ≤ length area → longestSessionReport ≤ length out
     → sessionOnBytes input area out ≡ session input
+
+-- A session that is too long may be cut after one byte more than the longest has: it is the same session.
+abbrev pub CutTooLong : Type 0
+CutTooLong = (input : List ℕ) → session (take (suc maxSession) input) ≡ session input
 
 -- The position at which an answer leaves the session, if any, lies behind the position p and within n bytes.
 abbrev pub Onward : ℕ → ℕ → Reply → Type 0

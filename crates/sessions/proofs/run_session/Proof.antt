@@ -1,19 +1,16 @@
 -- `sessions::run_session` meets its contract: the opening's line fits, and the steps go on from where the opening leads. Assumes
 -- nothing.
-use mathlib.Core.Path.{_≡_, ap, sym, subst, _∙_}
+use mathlib.Core.Path.{_≡_, ap, sym, _∙_}
 use mathlib.Core.List.{List}
-use mathlib.Core.Bool.{not}
 use Prim.Native.Nat.{ℕ}
 use native.Mathlib.Omega.{arith}
 use borrow.Author.Needs.{needs}
-use denote.Ref.{now}
 use lib.ListN.{length}
 use lib.Seq.{length-take-le}
-use lib.Dec.{T}
 use Rattle.session.specs.declared.steps.Begun.{Begun}
 use Rattle.session.specs.declared.steps.Begun.the-variants.{Refused, At}
 use Rattle.session.specs.steps.Effects.{start, firstOr}
-use Rattle.printing.specs.whole.Loop.{standing, opened, endFrom, sessionEnd}
+use Rattle.printing.specs.whole.Loop.{standing, afterStart, endFrom, sessionEnd}
 use Rattle.printing.proofs.lines.Printing.{opening-within}
 use Rattle.printing.proofs.whole.Loop.{turn-by-turn}
 use Rattle.sessions.proofs.run_session.Statement.{statement}
@@ -21,8 +18,8 @@ use Rattle.sessions.proofs.run_session.Tie as tie
 
 -- where the opening leads, by its answer
 module _ (input area out area′ : List ℕ) {b : Begun} (answered : b ≡ start input area .answer) (left : area′ ≡ start input area .area) where
-  leads : {b′ : Begun} → b ≡ b′ → opened input area out ≡ standing (firstOr (length input) b′) area′ out
-  unfolding opened
+  leads : {b′ : Begun} → b ≡ b′ → afterStart input area out ≡ standing (firstOr (length input) b′) area′ out
+  unfolding afterStart
   leads h = rw (← answered, ← left, h)
 
   -- a refused opening is the end
@@ -35,27 +32,24 @@ module _ (input area out area′ : List ℕ) {b : Begun} (answered : b ≡ start
   unfolding sessionEnd firstOr
   goes-on h = sym (ap (endFrom input) (leads h))
 
-slice-reshare-prefix-write-all : tie.Need-slice-reshare-prefix-write-all
-slice-reshare-prefix-write-all c = opening-within _ _ _ _ (c .before .before .opening .ensures)
+slice-reshare-prefix-print : tie.Need-slice-reshare-prefix-print
+slice-reshare-prefix-print c = opening-within _ _ _ _ (c .before .before .opening .ensures)
 
-slice-aggregate-write-all : tie.Need-slice-aggregate-write-all
-slice-aggregate-write-all c = sym (length-take-le _ _ (opening-within _ _ _ _ (c .before .before .before .opening .ensures)))
+slice-aggregate-print : tie.Need-slice-aggregate-print
+slice-aggregate-print c = sym (length-take-le _ _ (opening-within _ _ _ _ (c .before .before .before .opening .ensures)))
 
 returns : tie.Need-returns
-returns c = λ e. absurd (subst (λ t. T (not t)) e tt)
+returns c =
+    let known = c .before in
+    let begins = known .before .before .before .before .before .before .before .before .before .before .«open» .ensures in
+    ends _ _ _ _ (begins .0) (begins .1 .0) (known .begun .given .1)
 
 returns-2 : tie.Need-returns-2
 returns-2 c =
-    let known = c .before in
-    let begins = known .before .before .before .before .before .before .before .before .before .before .before .«open» .ensures in
-    λ e. ends _ _ _ _ (begins .0) (begins .1 .0) (known .begun .given .1)
-
-returns-3 : tie.Need-returns-3
-returns-3 c =
     let taken = c .before .before .before .before .before .before .before .before in
     let known = taken .before .before .before .before .before .before in
-    let begins = known .before .before .before .before .before .before .before .before .before .before .before .«open» .ensures in
-    λ e. taken .steps .ensures e ∙ goes-on _ _ _ _ (begins .0) (begins .1 .0) (known .begun2 .given .1)
+    let begins = known .before .before .before .before .before .before .before .before .before .before .«open» .ensures in
+    taken .steps .ensures ∙ goes-on _ _ _ _ (begins .0) (begins .1 .0) (known .begun2 .given .1)
 
 pub run-session-spec : {M : Type 1} → statement M
 run-session-spec =
@@ -63,20 +57,17 @@ run-session-spec =
     (tie.spec
     (λ c κs. search needs)
     (λ c κs. search needs)
-    slice-reshare-prefix-write-all
-    slice-aggregate-write-all
+    slice-reshare-prefix-print
+    slice-aggregate-print
+    (λ c κs. search needs)
+    (λ c. search needs)
+    (λ c. search needs)
     (λ c κs. search needs)
     (λ c. search needs)
     (λ c. search needs)
     returns
     (λ c. search needs)
     (λ c. search needs)
-    (λ c κs. search needs)
     (λ c. search needs)
     (λ c. search needs)
-    returns-2
-    (λ c. search needs)
-    (λ c. search needs)
-    (λ c. search needs)
-    (λ c. search needs)
-    returns-3)
+    returns-2)

@@ -1,14 +1,12 @@
 -- `sessions::steps` meets its contract, and ends: each turn leads behind its position. The loop keeps the buffers' lengths, what is
 -- kept of the report, and where all turns from here lead. Assumes nothing.
-use mathlib.Core.Path.{_≡_, refl, sym, subst, _∙_}
+use mathlib.Core.Path.{_≡_, refl, sym, _∙_}
 use mathlib.Core.List.{List}
-use mathlib.Core.Bool.{not}
 use Prim.Native.Nat.{ℕ, _-_, _<_, _≤_}
 use native.Mathlib.Omega.{arith}
 use borrow.Author.Needs.{needs}
 use denote.Ref.{now}
 use lib.ListN.{length}
-use lib.Dec.{T}
 use Rattle.session.specs.steps.Effects.{stepAt, nextOr}
 use Rattle.printing.specs.turns.Turns.{KeptReport}
 use Rattle.printing.specs.whole.Loop.{Standing, standing, stepFrom, turn, endFrom}
@@ -18,12 +16,12 @@ use Rattle.sessions.proofs.steps.Statement.{statement}
 use Rattle.sessions.proofs.steps.Tie as tie
 
 abbrev Inv-loop : tie.InvT-loop
-Inv-loop input first area₀ out₀ report₀ text₀ at₀ kept₀ area out report text at kept =
+Inv-loop input first area₀ out₀ report₀ text₀ opened at₀ kept₀ printed₀ area out report text at kept printed =
     (length area ≡ length area₀) × (length out ≡ length out₀) × (length report ≡ length report₀) × (length text ≡ length text₀) × KeptReport area out report kept
     × (endFrom input (standing at area out) ≡ endFrom input (standing first area₀ out₀))
 
 abbrev μ-loop : tie.MeasureT-loop
-μ-loop input first area₀ out₀ report₀ text₀ at₀ kept₀ area out report text at kept = length input - at
+μ-loop input first area₀ out₀ report₀ text₀ opened at₀ kept₀ printed₀ area out report text at kept printed = length input - at
 
 -- a turn leads behind its position, so less is left
 less-left : (input area out : List ℕ) (at next : ℕ) → at < length input → next ≡ nextOr (length input) (stepAt input area out at .answer)
@@ -46,23 +44,11 @@ loop-holds c = (refl, refl, refl, refl, (λ h. absurd (h refl)), refl)
 take-turn-requires : tie.Need-take-turn-requires Inv-loop μ-loop
 take-turn-requires c κs = ((search needs, search needs), c .before .before .before .before .before .loop .inv .4)
 
+shown-requires : tie.Need-shown-requires Inv-loop μ-loop
+shown-requires c κs = c .before .before .before .before .before .before .before .before .before .before .take-turn .ensures .1 .1 .1 .0 .0
+
 print-requires : tie.Need-print-requires Inv-loop μ-loop
-print-requires c κs = c .before .before .before .before .before .before .before .before .before .before .take-turn .ensures .1 .1 .1 .0 .0
-
-same-length : tie.Need-same-length Inv-loop μ-loop
-same-length c = search needs
-
-same-length-2 : tie.Need-same-length-2 Inv-loop μ-loop
-same-length-2 c = search needs
-
-same-length-3 : tie.Need-same-length-3 Inv-loop μ-loop
-same-length-3 c = search needs
-
-same-length-4 : tie.Need-same-length-4 Inv-loop μ-loop
-same-length-4 c = search needs
-
-returns : tie.Need-returns Inv-loop μ-loop
-returns c = λ e. absurd (subst (λ t. T (not t)) e tt)
+print-requires c κs = search needs
 
 loop-less : tie.Need-loop-less Inv-loop μ-loop
 loop-less c =
@@ -80,25 +66,25 @@ loop-again c =
     let start = top .before .before .before .before .before .before in
     let left = turned .take-turn .ensures in
     let on = turned-on (now (start .args .input)) (top .loop .area) (top .loop .out) _ _ (top .loop .at) _ _ (tested .loop-test .taken) (left .0) (left .1 .0) (left .1 .1 .0) (top .loop .inv .5) in
-    (search needs, search needs, search (needs, top .loop .inv .2), search (needs, top .loop .inv .3, turned .take-turn .kept .1 .1 .1 .1 .1 .1 .0), left .1 .1 .1 .1, on)
+    (search (needs, top .loop .inv .0, turned .take-turn .kept .1 .1 .0), search (needs, top .loop .inv .1, turned .take-turn .kept .1 .1 .1 .0), search (needs, top .loop .inv .2, turned .take-turn .kept .1 .1 .1 .1 .0), search (needs, top .loop .inv .3, turned .take-turn .kept .1 .1 .1 .1 .1 .1 .0), left .1 .1 .1 .1, on)
 
-same-length-5 : tie.Need-same-length-5 Inv-loop μ-loop
-same-length-5 c = search needs
+same-length : tie.Need-same-length Inv-loop μ-loop
+same-length c = search needs
 
-same-length-6 : tie.Need-same-length-6 Inv-loop μ-loop
-same-length-6 c = search needs
+same-length-2 : tie.Need-same-length-2 Inv-loop μ-loop
+same-length-2 c = search needs
 
-same-length-7 : tie.Need-same-length-7 Inv-loop μ-loop
-same-length-7 c = search needs
+same-length-3 : tie.Need-same-length-3 Inv-loop μ-loop
+same-length-3 c = search needs
 
-same-length-8 : tie.Need-same-length-8 Inv-loop μ-loop
-same-length-8 c = search needs
+same-length-4 : tie.Need-same-length-4 Inv-loop μ-loop
+same-length-4 c = search needs
 
-returns-2 : tie.Need-returns-2 Inv-loop μ-loop
-returns-2 c =
+returns : tie.Need-returns Inv-loop μ-loop
+returns c =
     let top = c .before in
     let start = top .before .before .before .before .before .before in
-    λ e. sym (turn-by-turn .none (now (start .args .input)) (standing (top .loop .at) (top .loop .area) (top .loop .out)) (c .loop-test .left) .0) ∙ top .loop .inv .5
+    sym (turn-by-turn .none (now (start .args .input)) (standing (top .loop .at) (top .loop .area) (top .loop .out)) (c .loop-test .left) .0) ∙ top .loop .inv .5
 
 pub steps-spec : {M : Type 1} → statement M
 steps-spec =
@@ -108,16 +94,12 @@ steps-spec =
     μ-loop
     loop-holds
     take-turn-requires
+    shown-requires
     print-requires
+    loop-less
+    loop-again
     same-length
     same-length-2
     same-length-3
     same-length-4
-    returns
-    loop-less
-    loop-again
-    same-length-5
-    same-length-6
-    same-length-7
-    same-length-8
-    returns-2)
+    returns)

@@ -5,7 +5,7 @@ use mathlib.Core.List.{List, map}
 use mathlib.Core.Logic.{_⊎_, inl, inr}
 use mathlib.Core.Option.{none}
 use Prim.Native.Nat.{ℕ, zero, suc, _+_, _*_, _-_, _/_, _%_, _≤_, _<_, zero-le, suc-le-suc}
-use native.Mathlib.Nat.{zero-add, div-add-mod, mod-lt}
+use native.Mathlib.Nat.{zero-add, mul-comm, div-add-mod, div-lt-iff-lt-mul, mod-lt}
 use native.Mathlib.Omega.{arith}
 use lib.ListN.{length, getD, take}
 use lib.Seq.{getD-take}
@@ -27,6 +27,22 @@ use Rattle.theory.proofs.Area.Rows.{Stands}
 use Rattle.theory.proofs.Area.Layout.{length-areaWords, entry-arity, node-words, binding-words, line-words, entry-words, nodes-zero, bound-zero, lines-zero, entries-zero}
 use Rattle.theory.proofs.Area.Bytes.{sound-carries, sound-word}
 use Rattle.theory.proofs.Area.Unused.{node-places, places-variable, places-arguments, binding-place, entry-places, places-kind, places-hole, places-entries}
+
+-- A PART of n places from s on, in room up to z: what holds of its places and of those behind them holds of all.
+module _ (P : ℕ → Type 0) (s : ℕ) where
+  by-part : (n z : ℕ) → ((k : ℕ) → k < n → P (s + k)) → ((i : ℕ) → s + n ≤ i → i < z → P i) → (i : ℕ) → s ≤ i → i < z → P i
+  by-part n z used behind i l m = go (lt-or-le i (s + n))
+    where
+      go : (i < s + n) ⊎ (s + n ≤ i) → P i
+      go (inl k) = let e : s + (i - s) ≡ i = omega arith in subst P e (used (i - s) (omega arith))
+      go (inr k) = behind i k m
+
+  -- of n rows of w places each
+  by-row : (w n : ℕ) → 0 < w → ((t j : ℕ) → t < n → j < w → P (s + w * t + j)) → (k : ℕ) → k < w * n → P (s + k)
+  by-row w n h row k l =
+      let t : k / w < n = div-lt-iff-lt-mul h .1 (rw (mul-comm w n) at l) in
+      let e : s + w * (k / w) + k % w ≡ s + k = omega (arith, div-add-mod k w) in
+      subst P e (row (k / w) (k % w) t (mod-lt k h))
 
 -- THE STATE that an area holds: its counts, and its parts by the words at which they are read.
 module _ (lim : Limits) (area : List ℕ) where
@@ -132,40 +148,23 @@ module _ (lim : Limits) (area : List ℕ) where
           ap (λ x. getD (nodeWords x) j 0) (sym (held-node t l)) ∙ sym (node-words lim held f t j (omega (arith, held-terms)) m)
 
       terms-right : (i : ℕ) → headerWords ≤ i → i < bindingsAt lim → Right i
-      terms-right i l m = go (lt-or-le i (termAt (word area 1)))
-        where
-          go : (i < termAt (word area 1)) ⊎ (termAt (word area 1) ≤ i) → Right i
-          go (inl k) =
-              let t : ℕ = (i - headerWords) / termWords in
-              let j : ℕ = (i - headerWords) % termWords in
-              let small : j < termWords = mod-lt (i - headerWords) (suc-le-suc zero-le) in
-              let e : termAt t + j ≡ i = omega (arith, div-add-mod (i - headerWords) termWords) in
-              subst Right e (term-right t j (omega arith) small)
-          go (inr k) = p .behind-terms i k m ∙ sym (nodes-zero lim held f i (omega (arith, held-terms)) m)
+      terms-right =
+          by-part Right headerWords (termWords * word area 1) (bindingsAt lim)
+          (by-row Right headerWords termWords (word area 1) (suc-le-suc zero-le) (λ t j l m. term-right t j l m))
+          (λ i k m. p .behind-terms i k m ∙ sym (nodes-zero lim held f i (omega (arith, held-terms)) m))
 
       bindings-right : (i : ℕ) → bindingsAt lim ≤ i → i < linesAt lim → Right i
-      bindings-right i l m = go (lt-or-le i (bindingsAt lim + word area 1))
-        where
-          go : (i < bindingsAt lim + word area 1) ⊎ (bindingsAt lim + word area 1 ≤ i) → Right i
-          go (inl k) =
-              let t : ℕ = i - bindingsAt lim in
-              let below : t < word area 1 = omega arith in
-              let e : bindingsAt lim + t ≡ i = omega arith in
-              subst Right e
-              (sym (binding-words lim held f t (omega (arith, held-terms)) ∙ ap bindingWord (held-binding t below) ∙
-              binding-place area (bindingsAt lim + t)))
-          go (inr k) = p .behind-bindings i k m ∙ sym (bound-zero lim held f i (omega (arith, held-terms)) m)
+      bindings-right =
+          by-part Right (bindingsAt lim) (word area 1) (linesAt lim)
+          (λ t l. sym
+          (binding-words lim held f t (omega (arith, held-terms)) ∙ ap bindingWord (held-binding t l) ∙ binding-place area (bindingsAt lim + t)))
+          (λ i k m. p .behind-bindings i k m ∙ sym (bound-zero lim held f i (omega (arith, held-terms)) m))
 
       lines-right : (i : ℕ) → linesAt lim ≤ i → i < entriesAt lim → Right i
-      lines-right i l m = go (lt-or-le i (linesAt lim + word area 3))
-        where
-          go : (i < linesAt lim + word area 3) ⊎ (linesAt lim + word area 3 ≤ i) → Right i
-          go (inl k) =
-              let n : ℕ = i - linesAt lim in
-              let below : n < word area 3 = omega arith in
-              let e : linesAt lim + n ≡ i = omega arith in
-              subst Right e (sym (line-words lim held f n (omega (arith, held-lines)) ∙ held-line n below))
-          go (inr k) = p .behind-lines i (omega arith) m ∙ sym (lines-zero lim held f i (omega (arith, held-lines)) m)
+      lines-right =
+          by-part Right (linesAt lim) (word area 3) (entriesAt lim)
+          (λ n l. sym (line-words lim held f n (omega (arith, held-lines)) ∙ held-line n l))
+          (λ i k m. p .behind-lines i k m ∙ sym (lines-zero lim held f i (omega (arith, held-lines)) m))
 
       entry-right : (i j : ℕ) → i < word area 2 → j < entryRowWords → Right (rowAt lim i + j)
       entry-right i j l m =
@@ -173,16 +172,10 @@ module _ (lim : Limits) (area : List ℕ) where
           ap (λ x. getD (entryWords x) j 0) (sym (held-entry i l)) ∙ sym (entry-words lim held f i j (omega (arith, held-entries)) m)
 
       entries-right : (i : ℕ) → entriesAt lim ≤ i → i < rowAt lim (word area 0) → Right i
-      entries-right i l m = go (lt-or-le i (rowAt lim (word area 2)))
-        where
-          go : (i < rowAt lim (word area 2)) ⊎ (rowAt lim (word area 2) ≤ i) → Right i
-          go (inl k) =
-              let n : ℕ = (i - entriesAt lim) / entryRowWords in
-              let j : ℕ = (i - entriesAt lim) % entryRowWords in
-              let small : j < entryRowWords = mod-lt (i - entriesAt lim) (suc-le-suc zero-le) in
-              let e : rowAt lim n + j ≡ i = omega (arith, div-add-mod (i - entriesAt lim) entryRowWords) in
-              subst Right e (entry-right n j (omega arith) small)
-          go (inr k) = p .behind-entries i k m ∙ sym (entries-zero lim held f i (omega (arith, held-entries)))
+      entries-right =
+          by-part Right (entriesAt lim) (entryRowWords * word area 2) (rowAt lim (word area 0))
+          (by-row Right (entriesAt lim) entryRowWords (word area 2) (suc-le-suc zero-le) (λ n j l m. entry-right n j l m))
+          (λ i k m. p .behind-entries i k m ∙ sym (entries-zero lim held f i (omega (arith, held-entries))))
 
       right-at : (i : ℕ) → i < rowAt lim (word area 0) → Right i
       right-at i l = go (lt-or-le i headerWords) (lt-or-le i (bindingsAt lim)) (lt-or-le i (linesAt lim)) (lt-or-le i (entriesAt lim))

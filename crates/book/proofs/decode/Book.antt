@@ -14,9 +14,11 @@ use Rattle.model.specs.BookBytes.{unparsed, andThen, parseTerms}
 use Rattle.book.specs.declared.parse.Advance.{Advance}
 use Rattle.book.specs.declared.parse.Advance.the-variants.{Next, Refused}
 use Rattle.layout.proofs.limits.Counts.{Counted, counted-none, counted-more, length-noted}
+use Rattle.book.specs.declared.decode.Terms.the-variants.{Read as AllRead}
 use Rattle.book.specs.decode.Rows.{bookRows}
+use Rattle.book.specs.decode.Unread.{orLeft, unreadTerms, TermsOf}
 use Rattle.book.specs.parse.Parts.{parseTerm, AdvanceOf, TermIn, BookIn}
-use Rattle.book.proofs.decode.Counts.{term-parsed}
+use Rattle.book.proofs.decode.Counts.{term-parsed, term-unread}
 use Rattle.book.proofs.decode.TermRows.{rows-none, rows-more, length-more}
 
 -- after t terms the next one is at `next`
@@ -30,6 +32,7 @@ pub record Read (bytes : List ℕ) (at count size : ℕ) (rows counts : List ℕ
   pub counted : Counted book counts
   pub symbols : length counts ≡ suc maxSymbol
   pub parse : parseTerms count [] (drop at bytes) ≡ parseTerms (count - t) book (drop next bytes)
+  pub unread : unreadTerms count [] (drop at bytes) ≡ unreadTerms (count - t) book (drop next bytes)
 
 module _ (bytes : List ℕ) (at count size : ℕ) where
   pub read-none : (rows : List ℕ) → at ≤ length bytes → rows ≡ replicate size 0 → Read bytes at count size rows (replicate (suc maxSymbol) 0) at 0
@@ -44,6 +47,7 @@ module _ (bytes : List ℕ) (at count size : ℕ) where
     counted = counted-none;
     symbols = length-replicate {A = ℕ} (suc maxSymbol) 0;
     parse = rw sub-zero;
+    unread = rw sub-zero;
   }
 
   module _ (rows counts : List ℕ) (next t : ℕ) (r : Read bytes at count size rows counts next t) (l : t < count) where
@@ -54,13 +58,19 @@ module _ (bytes : List ℕ) (at count size : ℕ) where
         let left : count - t ≡ suc (count - (t + 1)) = omega arith in
         r .parse ∙ rw (left, ← r .as-many) (term-parsed (r .book) counts (r .counted) (count - (length (r .book) + 1)) (drop next bytes))
 
+    next-unread : unreadTerms count [] (drop at bytes)
+        ≡ orLeft (parseTerm counts t (drop next bytes)) (drop next bytes) (λ x rest. unreadTerms (count - (t + 1)) (r .book ++ x ∷ []) rest)
+    next-unread =
+        let left : count - t ≡ suc (count - (t + 1)) = omega arith in
+        r .unread ∙ rw (left, ← r .as-many) (term-unread (r .book) counts (r .counted) (count - (length (r .book) + 1)) (drop next bytes))
+
     module _ (rows′ counts′ : List ℕ) where
       -- what the reader of a term promises
       abbrev Answered : Advance → Type 0
       Answered = AdvanceOf bytes (parseTerm counts t (drop next bytes)) (TermIn t counts counts′ rows rows′)
 
       more : (after : ℕ) → termWords * count ≤ size → Answered (Next after) → Read bytes at count size rows′ counts′ after (t + 1)
-      unfolding andThen
+      unfolding andThen orLeft
       more after m s =
           let x = s .0 in
           let term = s .3 in
@@ -74,20 +84,24 @@ module _ (bytes : List ℕ) (at count size : ℕ) where
             counted = rw (term .counted) (counted-more (r .book) counts x (r .symbols) (term .suits) (r .counted));
             symbols = rw (term .counted, length-noted) (r .symbols);
             parse = next-parsed ∙ rw (s .1);
+            unread = next-unread ∙ rw (s .1);
           }
 
       pub read-more : (a : Advance) (after : ℕ) → termWords * count ≤ size → Answered a → a ≡ Next after
           → Read bytes at count size rows′ counts′ after (t + 1)
       read-more a after m s e = more after m (subst Answered e s)
 
-      pub read-refused : (a : Advance) (k : ℕ) → Answered a → a ≡ Refused k → parseTerms count [] (drop at bytes) ≡ unparsed k
-      unfolding andThen
-      read-refused a k s e = let d : parseTerm counts t (drop next bytes) ≡ unparsed k = subst Answered e s in next-parsed ∙ rw d
+      pub read-refused : (a : Advance) (k : ℕ) → Answered a → a ≡ Refused k
+          → (parseTerms count [] (drop at bytes) ≡ unparsed k) × (unreadTerms count [] (drop at bytes) ≡ drop next bytes) × (next ≤ length bytes)
+      unfolding andThen orLeft
+      read-refused a k s e =
+          let d : parseTerm counts t (drop next bytes) ≡ unparsed k = subst Answered e s in
+          (next-parsed ∙ rw d, next-unread ∙ rw d, r .within)
 
   pub read-all : (rows counts : List ℕ) (next t : ℕ) → Read bytes at count size rows counts next t → count ≤ t
-      → AdvanceOf bytes (parseTerms count [] (drop at bytes)) (BookIn count size rows) (Next next)
-  unfolding parseTerms
+      → TermsOf bytes (parseTerms count [] (drop at bytes)) (BookIn count size rows) (unreadTerms count [] (drop at bytes)) (AllRead next)
+  unfolding parseTerms unreadTerms
   read-all rows counts next t r l =
       let left : count - t ≡ 0 = omega arith in
       let whole : t ≡ count = omega arith in
-      (r .book, r .parse ∙ rw left, r .within, record { as-many = r .as-many ∙ whole; written = r .written })
+      ((r .book, r .parse ∙ rw left, r .within, record { as-many = r .as-many ∙ whole; written = r .written }), r .unread ∙ rw left)

@@ -15,6 +15,7 @@ use Rattle.layout.specs.limits.Counts.{fitsEntry}
 use Rattle.layout.proofs.limits.Counts.{Counted}
 use Rattle.book.specs.parse.Below.{parseBelow}
 use Rattle.book.specs.parse.Parts.{parseCount, nodeFrom, parseNodeOf, parseTerm}
+use Rattle.book.specs.decode.Unread.{orLeft, unreadTerms}
 use Rattle.book.proofs.decode.Parsing.{then-then, then-alike, up-to-then}
 
 -- what follows a number that is needed
@@ -62,3 +63,9 @@ module _ (before : Book) (counts : List ℕ) (h : Counted before counts) where
   unfolding parseTerms
   term-parsed k bytes =
       rw (whole-parsed bytes) (sym (then-then (parseNumber bytes) (parseNode before) (λ x rest. parseTerms k (before ++ x ∷ []) rest)))
+
+  -- and what is not read of them
+  pub term-unread : (k : ℕ) (bytes : List ℕ) → unreadTerms (suc k) before bytes
+      ≡ orLeft (parseTerm counts (length before) bytes) bytes (λ x rest. unreadTerms k (before ++ x ∷ []) rest)
+  unfolding unreadTerms
+  term-unread k bytes = rw (whole-parsed bytes)

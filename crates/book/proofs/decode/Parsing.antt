@@ -21,7 +21,7 @@ then-then (parsed a rest) f g = refl
 then-then (unparsed k) f g = refl
 
 -- nothing follows
-then-same : {A : Type 0} (p : Parsed A) → andThen p parsed ≡ p
+pub then-same : {A : Type 0} (p : Parsed A) → andThen p parsed ≡ p
 unfolding andThen
 then-same (parsed a rest) = refl
 then-same (unparsed k) = refl

@@ -1,0 +1,41 @@
+-- How far a book's bytes are read: up to the part that is refused, and to the end where none is (document 01, "Bytes"). The parts are
+-- the number of terms, each term, and what is left behind the last one. Assumes nothing: these are definitions.
+use mathlib.Core.Path.{_≡_}
+use mathlib.Core.List.{List, [], _∷_, _++_}
+use Prim.Native.Nat.{ℕ, zero, suc, _-_, _≤_}
+use lib.ListN.{length, drop}
+use lib.Dec.{leb}
+use Rattle.model.specs.Limits.{Limits}
+use Rattle.model.specs.Term.{Book}
+use Rattle.model.specs.BookBytes.{Parsed, parsed, unparsed, andThen, need, parseNumber, parseNode}
+use Rattle.book.specs.declared.parse.Advance.the-variants.{Next}
+use Rattle.book.specs.declared.decode.Terms.{Terms}
+use Rattle.book.specs.declared.decode.Terms.the-variants.{Read, Refused}
+use Rattle.book.specs.parse.Parts.{AdvanceOf}
+
+-- What follows a part that was read; where it is refused, the bytes from its first one on.
+unfoldable pub orLeft : {A : Type 0} → Parsed A → List ℕ → (A → List ℕ → List ℕ) → List ℕ
+orLeft (parsed a rest) bytes then = then a rest
+orLeft (unparsed n) bytes then = bytes
+
+-- The bytes that are not read of k terms more, after those before them: from the first term that is refused on, or those behind the
+-- last term.
+unfoldable pub unreadTerms : ℕ → Book → List ℕ → List ℕ
+unreadTerms zero before bytes = bytes
+unreadTerms (suc k) before bytes =
+    orLeft (andThen (parseNumber bytes) (parseNode before)) bytes (λ n rest. unreadTerms k (before ++ n ∷ []) rest)
+
+-- The same of a whole book: all where the number of terms is refused.
+unfoldable pub unreadBook : Limits → List ℕ → List ℕ
+unreadBook lim bytes =
+    orLeft (andThen (parseNumber bytes) (λ n rest. need (leb n (lim .maxTerms)) 4 (parsed n rest))) bytes (λ n rest. unreadTerms n [] rest)
+
+-- How far a book is read: the position of the part that is refused, and the end where none is.
+unfoldable pub readTo : Limits → List ℕ → ℕ
+readTo lim bytes = length bytes - length (unreadBook lim bytes)
+
+-- What the reader of terms answers, case by case, where p is the outcome and `left` the bytes that are not read: they begin at the
+-- position that it names.
+abbrev pub TermsOf : List ℕ → Parsed Book → (Book → Type 0) → List ℕ → Terms → Type 0
+TermsOf bytes p P left (Read next) = AdvanceOf bytes p P (Next next) × (left ≡ drop next bytes)
+TermsOf bytes p P left (Refused k at) = (p ≡ unparsed k) × (left ≡ drop at bytes) × (at ≤ length bytes)

@@ -22,7 +22,7 @@ pub struct Decoding {
 }
 
 // What reading the terms answers: the position behind them, or the refusal and the position of the term that is refused.
-pub enum Terms {
+enum Terms {
     Read(usize),
     Refused { refusal: u32, at: usize },
 }

@@ -1,8 +1,9 @@
-// A book opened in an area, with the office's limits.
+// A book opened in an area, and where it is refused, with the office's limits.
 
 ghost use mathlib.Core.Path.{_≡_};
 ghost use Rattle.model.specs.Limits.{office};
 ghost use Rattle.model.specs.Call.{callOpen};
+ghost use Rattle.book.specs.decode.Unread.{readTo};
 ghost use Rattle.office.specs.opening.Offered.{neededLength};
 
 // The length in bytes that an area of this capacity needs, 0 for a capacity out of range.
@@ -40,4 +41,13 @@ pub fn open(capacity: u32, book: &[u8], area: &mut [u8]) -> u32
     let terms = decoded.terms;
     area::save::opened(layout::limits::OFFICE, area, capacity, needed, &rows, terms);
     0
+}
+
+// How far a book is read: the position of the part that is refused, and the end where none is.
+pub fn read_to(book: &[u8]) -> usize
+    ensures { λ r. ⌜ r ≡ readTo office (now (book .entry)) ⌝ }
+{
+    let mut rows = [0u32; layout::limits::ROWS];
+    let decoded = book::decode::decode(layout::limits::OFFICE, book, &mut rows);
+    decoded.at
 }

@@ -1,3 +1,4 @@
 pub mod Opening
+pub mod Fault
 pub mod Stepping
 pub mod Lines

@@ -1,6 +1,6 @@
 // The session program (docs/SPEC.md, "Sessions"): it reads a session from standard input, and prints a line for the opening and
 // for each step. The opening is a function of crate session, a step with the text of its line one of crate printing; here they are joined to
-// the input and the output.
+// the input and the output. On standard error it says where the input stops being a session, and what cannot be read or printed.
 
 ghost use mathlib.Core.Path.{_≡_};
 ghost use mathlib.Core.Bool.{cond};
@@ -11,9 +11,12 @@ ghost use Rattle.model.specs.Area.{areaLength};
 ghost use Rattle.theory.specs.Lengths.{longestSessionReport};
 ghost use Rattle.session.specs.text.Text.{lineMost};
 ghost use Rattle.printing.specs.whole.Loop.{standing, endFrom, sessionEnd};
+ghost use Rattle.io.specs.Counts.{Counts};
+use libc::STDERR_FILENO;
 use libc::STDIN_FILENO;
 use libc::STDOUT_FILENO;
 use printing::turns::Printout;
+use session::command::Command;
 use session::steps::Begun;
 
 // The bytes of an area of the session's capacity, of the longest report, and of the longest line of text.
@@ -27,12 +30,82 @@ const REPORT: usize = 24068;
 
 const LINE: usize = 33 + 6 * REPORT;
 
-// Prints a text where all before it were printed; false where one of them, or this, cannot be.
+// Reads standard input until it ends, the buffer is full or a read fails, and gives the number of bytes. A failed read is said.
+fn read_input(buf: &mut [u8]) -> usize
+    ensures { λ r. ⌜ Counts r (now (buf .exit)) ⌝ }
+{
+    let mut done: usize = 0;
+    while done < buf.len() {
+        let got = libc::read(STDIN_FILENO, &mut buf[done..]);
+        if got < 0 {
+            os::fail(b"sessions: standard input");
+            return done;
+        }
+        let more = io::count(got, &buf[done..]);
+        if more == 0 {
+            return done;
+        }
+        done += more;
+    }
+    done
+}
+
+// Prints a text where all before it were printed; false where one of them, or this, cannot be. The first that cannot be is said.
 fn print(printed: bool, text: &[u8]) -> bool {
     if !printed {
         return false;
     }
-    io::write_all(STDOUT_FILENO, text)
+    if io::write_all(STDOUT_FILENO, text) {
+        return true;
+    }
+    os::fail(b"sessions: standard output");
+    false
+}
+
+// A refusal that ends a session, in words.
+fn tell_words(refusal: u32) -> bool {
+    match refusal {
+        1 => io::write_all(
+            STDERR_FILENO,
+            b"the bytes end within a number, or before one",
+        ),
+        2 => io::write_all(
+            STDERR_FILENO,
+            b"a number not in shortest form, of more than three bytes, or above 65,535",
+        ),
+        3 => io::write_all(STDERR_FILENO, b"bytes after the last term of the book"),
+        4 => io::write_all(
+            STDERR_FILENO,
+            b"a number of terms, a symbol or a count out of range, or a session of more than 65,536 bytes",
+        ),
+        5 => io::write_all(
+            STDERR_FILENO,
+            b"an argument that is not lower than its term",
+        ),
+        6 => io::write_all(STDERR_FILENO, b"a symbol with two counts"),
+        8 => io::write_all(STDERR_FILENO, b"an unknown step"),
+        _ => false,
+    }
+}
+
+// Says at which position the input stops being a session, and the refusal.
+fn tell(at: usize, refusal: u32) {
+    io::write_all(STDERR_FILENO, b"sessions: byte ");
+    io::print_decimal(STDERR_FILENO, at as u64);
+    io::write_all(STDERR_FILENO, b": refused with ");
+    io::print_decimal(STDERR_FILENO, refusal as u64);
+    io::write_all(STDERR_FILENO, b": ");
+    tell_words(refusal);
+    io::write_all(STDERR_FILENO, b"\n");
+}
+
+// Says so of the step at position `at`, where it is refused and ends the session. Behind any other step the session goes on at `next`.
+fn tell_stop(input: &[u8], at: usize, next: usize) {
+    if next == input.len() {
+        if let Command::Stopped(refusal) = session::command::command_at(input, at) {
+            tell(at, refusal);
+        }
+    }
 }
 
 // The text that a turn shows.
@@ -69,6 +142,7 @@ fn steps(
     while at < input.len() {
         let t = printing::turns::take_turn(input, at, area, out, report, kept, text);
         printed = print(printed, shown(t, report, text));
+        tell_stop(input, at, t.next);
         at = t.next;
         kept = t.kept;
     }
@@ -94,7 +168,10 @@ fn run_session(
     let n = printing::lines::opening(begun, text);
     let opened = print(true, &text[..n]);
     match begun {
-        Begun::Refused(refusal) => input.len(),
+        Begun::Refused(refusal) => {
+            tell(session::steps::opening_fault(input), refusal);
+            input.len()
+        }
         Begun::At(first) => steps(input, first, area, out, report, text, opened),
     }
 }
@@ -111,6 +188,6 @@ fn run(input: &[u8]) {
 fn main() {
     // one byte more than the longest session shows that a session is too long
     let mut input = [0u8; session::steps::LONGEST + 1];
-    let n = io::read_full(STDIN_FILENO, &mut input);
+    let n = read_input(&mut input);
     run(&input[..n]);
 }

@@ -40,7 +40,7 @@ slice-aggregate-print c = sym (length-take-le _ _ (opening-within _ _ _ _ (c .be
 
 returns : tie.Need-returns
 returns c =
-    let known = c .before in
+    let known = c .before .before .before in
     let begins = known .before .before .before .before .before .before .before .before .before .before .«open» .ensures in
     ends _ _ _ _ (begins .0) (begins .1 .0) (known .begun .given .1)
 
@@ -61,6 +61,8 @@ run-session-spec =
     slice-aggregate-print
     (λ c κs. search needs)
     (λ c. search needs)
+    (λ c κs. search needs)
+    (λ c κs. search needs)
     (λ c. search needs)
     (λ c κs. search needs)
     (λ c. search needs)

@@ -50,9 +50,12 @@ shown-requires c κs = c .before .before .before .before .before .before .before
 print-requires : tie.Need-print-requires Inv-loop μ-loop
 print-requires c κs = search needs
 
+tell-stop-requires : tie.Need-tell-stop-requires Inv-loop μ-loop
+tell-stop-requires c κs = search needs
+
 loop-less : tie.Need-loop-less Inv-loop μ-loop
 loop-less c =
-    let turned = c .before .before .before .before .before .before .before .before .before .before .before .before in
+    let turned = c .before .before .before .before .before .before .before .before .before .before .before .before .before in
     let tested = turned .before .before .before .before .before in
     let top = tested .before in
     let start = top .before .before .before .before .before .before in
@@ -60,7 +63,7 @@ loop-less c =
 
 loop-again : tie.Need-loop-again Inv-loop μ-loop
 loop-again c =
-    let turned = c .before .before .before .before .before .before .before .before .before .before .before .before in
+    let turned = c .before .before .before .before .before .before .before .before .before .before .before .before .before in
     let tested = turned .before .before .before .before .before in
     let top = tested .before in
     let start = top .before .before .before .before .before .before in
@@ -96,6 +99,7 @@ steps-spec =
     take-turn-requires
     shown-requires
     print-requires
+    tell-stop-requires
     loop-less
     loop-again
     same-length

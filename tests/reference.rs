@@ -15,7 +15,7 @@ mod table;
 mod value;
 
 pub use area::{Limits, OFFICE};
-pub use book::{decode, encode, push_number, Term};
+pub use book::{decode, encode, push_number, Part, Term};
 pub use calls::{perform, Answer, Call, Perform};
 pub use random::{book_over, first_seed, random_book, times, Random};
 pub use session::{session, End, Session, CAPACITY, LONGEST};

@@ -1,15 +1,17 @@
-//! Runs the session program on random sessions, valid and damaged, and compares every line that it prints with the second
-//! implementation. Every session is made from its own seed, which is printed where the two differ. The run prints how often
-//! each kind of session, refusal and end occurred, and fails where one did not. With `slow` it times the sessions that take longest of
-//! those tried, and compares nothing.
+//! Runs the session program on random sessions, valid and damaged, and compares every line that it prints, and what it says on
+//! standard error, with the second implementation. Every session is made from its own seed, which is printed where the two differ. The
+//! run prints how often each kind of session, refusal and end occurred, and fails where one did not. With `slow` it times the sessions
+//! that take longest of those tried, and compares nothing.
 
 mod bases;
 mod reference;
 
-use reference::{encode, first_seed, push_number, random_book, session, times, Call, End, Random, Session, Term, LONGEST};
+use reference::{encode, first_seed, push_number, random_book, session, times, Call, End, Part, Random, Session, Term, LONGEST};
 use std::collections::BTreeMap;
 use std::io::{Read, Write};
-use std::process::{Command, Stdio};
+use std::os::fd::OwnedFd;
+use std::os::unix::net::UnixStream;
+use std::process::{Child, Command, Stdio};
 use std::thread;
 use std::time::{Duration, Instant};
 
@@ -21,11 +23,22 @@ const LONG_EVERY: u64 = 1_600;
 const PIECES: [usize; 4] = [usize::MAX, 1_000, 7, 2];
 const PROGRAM: &str = "target/bin/sessions";
 
-/// What the program prints for this input, which it gets in pieces of this size.
-fn printed(input: &[u8], piece: usize, pause: Duration) -> Result<String, String> {
+/// What a program prints, and what it says on standard error; it has to end with 0.
+fn output(child: Child) -> Result<(String, String), String> {
+    let output = child.wait_with_output().map_err(|error| error.to_string())?;
+    if !output.status.success() {
+        return Err(format!("the program ended with {}", output.status));
+    }
+    let text = |bytes| String::from_utf8(bytes).map_err(|error| error.to_string());
+    Ok((text(output.stdout)?, text(output.stderr)?))
+}
+
+/// What the program prints and says for this input, which it gets in pieces of this size.
+fn printed(input: &[u8], piece: usize, pause: Duration) -> Result<(String, String), String> {
     let mut child = Command::new(PROGRAM)
         .stdin(Stdio::piped())
         .stdout(Stdio::piped())
+        .stderr(Stdio::piped())
         .spawn()
         .map_err(|error| format!("{PROGRAM}: {error}"))?;
     let mut stdin = child.stdin.take().expect("a pipe");
@@ -39,12 +52,9 @@ fn printed(input: &[u8], piece: usize, pause: Duration) -> Result<String, String
             thread::sleep(pause);
         }
     });
-    let output = child.wait_with_output().map_err(|error| error.to_string())?;
+    let output = output(child);
     writer.join().expect("the writer");
-    if !output.status.success() {
-        return Err(format!("the program ended with {}", output.status));
-    }
-    String::from_utf8(output.stdout).map_err(|error| error.to_string())
+    output
 }
 
 /// A session of a book's bytes and of steps.
@@ -212,6 +222,7 @@ fn kinds() -> Vec<String> {
         "length refused with 1",
         "length refused with 2",
         "length past the end",
+        "bytes after the last term",
         "step number refused with 1",
         "step number refused with 2",
         "other number refused with 1",
@@ -227,7 +238,9 @@ fn kinds() -> Vec<String> {
     ]
     .map(String::from)
     .to_vec();
-    kinds.extend((1..=6).map(|refusal| format!("book refused with {refusal}")));
+    kinds.extend([1, 2, 4].map(|refusal| format!("number of terms refused with {refusal}")));
+    kinds.extend([1, 2, 4, 5, 6].map(|refusal| format!("term refused with {refusal}")));
+    kinds.extend([1, 2, 3, 4, 5, 6, 8].map(|refusal| format!("said: refused with {refusal}")));
     kinds.extend((8..=12).map(|refusal| format!("step refused with {refusal}")));
     kinds
 }
@@ -255,11 +268,16 @@ impl Census {
             End::TooLong => {}
             End::Length(refusal) => self.note(format!("length refused with {refusal}")),
             End::LengthPastEnd => self.note("length past the end"),
-            End::Book(refusal) => self.note(format!("book refused with {refusal}")),
+            End::Book(Part::Count, refusal) => self.note(format!("number of terms refused with {refusal}")),
+            End::Book(Part::Term, refusal) => self.note(format!("term refused with {refusal}")),
+            End::Book(Part::Rest, _) => self.note("bytes after the last term"),
             End::StepNumber(refusal) => self.note(format!("step number refused with {refusal}")),
             End::OtherNumber(refusal) => self.note(format!("other number refused with {refusal}")),
             End::UnknownStep => self.note("unknown step"),
             End::Input => self.note("all steps taken"),
+        }
+        if let Some((_, refusal)) = session.said.split_once(": refused with ") {
+            self.note(format!("said: refused with {}", &refusal[..1]));
         }
         let turns = session.steps.chunks(2);
         if turns.len() > 3 && turns.clone().all(|turn| turn.len() == 2 && turn[0] != 3 && turn[1] == 3) {
@@ -308,18 +326,21 @@ impl Census {
     }
 }
 
-/// docs/SPEC.md's sessions and what they print.
-fn worked() -> Vec<(Vec<u8>, &'static str)> {
+/// docs/SPEC.md's sessions, what they print, and what they say on standard error.
+fn worked() -> Vec<(Vec<u8>, &'static str, &'static str)> {
     let book_a = [6, 0, 4, 0, 2, 1, 0, 2, 1, 1, 3, 2, 2, 0, 3, 2, 3, 1];
     let sample = "0\n0 0\n0 1 0 3 4 5 3 2 1 2 2 3 2 1 2 0 1 0\n0 1 0\n0 1 0 3 4 4 3 2 1 2 2 2 2 1 2 0 0 4 0\n";
+    let cut = "sessions: byte 0: refused with 1: the bytes end within a number, or before one\n";
+    let invalid = "sessions: byte 0: refused with 2: a number not in shortest form, of more than three bytes, or above 65,535\n";
+    let cut_step = "sessions: byte 3: refused with 1: the bytes end within a number, or before one\n";
     vec![
-        (vec![], "1\n"),
-        (vec![2, 0], "1\n"),
-        (vec![0x80, 0], "2\n"),
-        (vec![1, 0, 5], "0\n8\n"),
-        (vec![1, 0, 1, 0, 0, 3], "0\n8\n0 0 0\n"),
-        (vec![1, 0, 3, 0x80], "0\n0 0 0\n1\n"),
-        (of(&book_a, &[1, 4, 5, 3, 2, 0, 1, 3]), sample),
+        (vec![], "1\n", cut),
+        (vec![2, 0], "1\n", cut),
+        (vec![0x80, 0], "2\n", invalid),
+        (vec![1, 0, 5], "0\n8\n", "sessions: byte 2: refused with 8: an unknown step\n"),
+        (vec![1, 0, 1, 0, 0, 3], "0\n8\n0 0 0\n", ""),
+        (vec![1, 0, 3, 0x80], "0\n0 0 0\n1\n", cut_step),
+        (of(&book_a, &[1, 4, 5, 3, 2, 0, 1, 3]), sample, ""),
     ]
 }
 
@@ -367,7 +388,7 @@ fn time_slow() {
     println!("|---|---|---|---|");
     for (name, input, part) in slow() {
         let expected = session(&input[..part]).printed;
-        let output = printed(&input, usize::MAX, Duration::ZERO).expect("the program runs");
+        let (output, _) = printed(&input, usize::MAX, Duration::ZERO).expect("the program runs");
         assert!(output.starts_with(&expected), "{name}: the program prints something else");
         std::fs::write("target/tests/slow", &input).expect("the session is written");
         let run = || {
@@ -381,10 +402,15 @@ fn time_slow() {
     }
 }
 
-fn compare(name: &str, input: &[u8], expected: &str, piece: usize, pause: u64) -> bool {
+fn compare(name: &str, input: &[u8], expected: (&str, &str), piece: usize, pause: u64) -> bool {
     match printed(input, piece, Duration::from_millis(pause)) {
-        Ok(ours) if ours == expected => true,
-        Ok(ours) => {
+        Ok((ours, said)) if (ours.as_str(), said.as_str()) == expected => true,
+        Ok((ours, said)) if ours == expected.0 => {
+            println!("{name}: says '{said}', expected '{}'", expected.1);
+            false
+        }
+        Ok((ours, _)) => {
+            let expected = expected.0;
             let line = ours.lines().zip(expected.lines()).take_while(|(a, b)| a == b).count();
             let show = |text: &str| text.lines().nth(line).unwrap_or("nothing").chars().take(100).collect::<String>();
             println!("{name}: line {line} is '{}', expected '{}'", show(&ours), show(expected));
@@ -397,25 +423,61 @@ fn compare(name: &str, input: &[u8], expected: &str, piece: usize, pause: u64) -
     }
 }
 
-/// The program ends by itself where nobody takes what it prints: the output closed after a byte, and closed from the start.
-fn output_closed() -> bool {
+/// The program on an input that cannot be read, or with an output that cannot be written: it says so, once, and ends by itself.
+fn failing() -> Vec<bool> {
     let shell = |line: &str| {
         let mut command = Command::new("sh");
-        command.args(["-c", line]).stdin(Stdio::piped()).stdout(Stdio::piped());
-        command.spawn().expect("a shell")
+        command.args(["-c", line]).stdin(Stdio::null()).stdout(Stdio::piped()).stderr(Stdio::piped());
+        command
     };
+    let ends = |mut command: Command, printed: &str, said: &str| {
+        let output = output(command.spawn().expect("a program"));
+        let holds = output.as_ref().is_ok_and(|(ours, ours_said)| ours == printed && ours_said == said);
+        if !holds {
+            println!("{output:?}, expected '{printed}' and '{said}'");
+        }
+        holds
+    };
+    let nothing = |why| format!("sessions: standard input: {why}\nsessions: byte 0: refused with 1: the bytes end within a number, or before one\n");
+    let full = "sessions: standard output: No space left on device\nsessions: byte 4: refused with 8: an unknown step\n";
+    let closed = "sessions: standard output: Bad file descriptor\n";
+    vec![
+        ends(shell(&format!("exec {PROGRAM} <.")), "1\n", &nothing("Is a directory")),
+        ends(shell(&format!("exec {PROGRAM} <&-")), "1\n", &nothing("Bad file descriptor")),
+        ends(broken_off(&[1, 0, 3]), "0\n0 0 0\n", "sessions: standard input: Resource temporarily unavailable\n"),
+        ends(shell(&format!("printf '\\001\\000\\003\\003\\005' | {PROGRAM} >/dev/full")), "", full),
+        ends(shell(&format!("printf '\\001\\000\\003' | {PROGRAM} >&-")), "", closed),
+        output_closed(),
+    ]
+}
+
+/// The program with an input that fails after these bytes: nothing more is there, and the program is not to wait for it.
+fn broken_off(input: &[u8]) -> Command {
+    let (mut ours, theirs) = UnixStream::pair().expect("a pair of sockets");
+    ours.write_all(input).expect("a socket takes a few bytes");
+    theirs.set_nonblocking(true).expect("a socket that does not wait");
+    let mut command = Command::new(PROGRAM);
+    command.stdin(OwnedFd::from(theirs)).stdout(Stdio::piped()).stderr(Stdio::piped());
+    // Where our end were closed, the input would end.
+    std::mem::forget(ours);
+    command
+}
+
+/// The output closed after a byte. The signal would end the program; without, it is told that it cannot write.
+fn output_closed() -> bool {
     let input = of(&[1, 0], &vec![3; 60_000]);
-    // The signal would end it; without, it is told that it cannot write.
-    let mut child = shell(&format!("trap '' PIPE; exec {PROGRAM}"));
+    let mut command = Command::new("sh");
+    command.args(["-c", &format!("trap '' PIPE; exec {PROGRAM}")]);
+    command.stdin(Stdio::piped()).stdout(Stdio::piped()).stderr(Stdio::piped());
+    let mut child = command.spawn().expect("a shell");
     let mut stdin = child.stdin.take().expect("a pipe");
     let writer = thread::spawn(move || drop(stdin.write_all(&input)));
     let mut stdout = child.stdout.take().expect("a pipe");
     let read = stdout.read_exact(&mut [0]).is_ok();
     drop(stdout);
-    let ended = child.wait().is_ok_and(|status| status.success());
+    let output = output(child);
     writer.join().expect("the writer");
-    let closed = shell(&format!("printf '\\001\\000\\003' | {PROGRAM} >&-")).wait().is_ok_and(|status| status.success());
-    read && ended && closed
+    read && output.is_ok_and(|(_, said)| said == "sessions: standard output: Broken pipe\n")
 }
 
 /// Every so many of the random sessions, from this one on: what they were, and whether each prints what it has to.
@@ -428,7 +490,7 @@ fn random_sessions(seed: u64, first: u64, every: u64) -> (Census, Vec<bool>) {
         let session = session(&input);
         census.session(&input, &session);
         let piece = PIECES[(i / 3 % PIECES.len() as u64) as usize];
-        same.push(compare(&format!("seed {seed:#x}"), &input, &session.printed, piece, 0));
+        same.push(compare(&format!("seed {seed:#x}"), &input, (&session.printed, &session.said), piece, 0));
     }
     (census, same)
 }
@@ -439,12 +501,13 @@ fn main() {
     }
     let (mut passed, mut failed) = (0, 0);
     let mut test = |holds: bool| if holds { passed += 1 } else { failed += 1 };
-    for (i, (input, expected)) in worked().into_iter().enumerate() {
-        test(session(&input).printed == expected);
-        test(compare(&format!("worked {i}"), &input, expected, usize::MAX, 0));
-        test(compare(&format!("worked {i} byte by byte"), &input, expected, 1, 2));
+    for (i, (input, lines, said)) in worked().into_iter().enumerate() {
+        let session = session(&input);
+        test((session.printed.as_str(), session.said.as_str()) == (lines, said));
+        test(compare(&format!("worked {i}"), &input, (lines, said), usize::MAX, 0));
+        test(compare(&format!("worked {i} byte by byte"), &input, (lines, said), 1, 2));
     }
-    test(output_closed());
+    failing().into_iter().for_each(&mut test);
     let seed = first_seed(SEED);
     println!("{} sessions from seed {seed:#x}", SESSIONS * times());
     let workers = thread::available_parallelism().map_or(1, |count| count.get().min(4)) as u64;

@@ -42,34 +42,65 @@ pub fn check(holds: bool, refusal: u32) -> Result<(), u32> {
     }
 }
 
+/// The parts of a book, one of which a refusal is of.
+#[derive(Clone, Copy)]
+pub enum Part {
+    Count,
+    Term,
+    Rest,
+}
+
+/// What a book is refused for: the part, the position of its first byte, and the refusal.
+pub struct Refused {
+    pub part: Part,
+    pub at: usize,
+    pub refusal: u32,
+}
+
 /// The terms of a book, or the refusal.
 pub fn decode(limits: Limits, bytes: &[u8]) -> Result<Vec<Term>, u32> {
+    decode_parts(limits, bytes).map_err(|refused| refused.refusal)
+}
+
+/// The terms of a book, or what it is refused for.
+pub fn decode_parts(limits: Limits, bytes: &[u8]) -> Result<Vec<Term>, Refused> {
+    let refused = |part, left: usize| move |refusal| Refused { part, at: bytes.len() - left, refusal };
     let mut source = Source { rest: bytes };
-    let count = source.number()? as usize;
-    check(count <= limits.terms, 4)?;
+    let count = number_of_terms(limits, &mut source).map_err(refused(Part::Count, bytes.len()))?;
     let mut arities = [None; MAX_SYMBOL as usize + 1];
-    let mut terms = Vec::with_capacity(count);
-    for own in 0..count as u32 {
-        let first = source.number()?;
-        if first == 0 {
-            terms.push(Term::Variable);
-            continue;
-        }
-        let symbol = first - 1;
-        check(symbol <= MAX_SYMBOL, 4)?;
-        let arity = source.number()?;
-        check(arity <= MAX_ARITY, 4)?;
-        check(*arities[symbol as usize].get_or_insert(arity) == arity, 6)?;
-        let mut arguments = Vec::new();
-        for _ in 0..arity {
-            let argument = source.number()?;
-            check(argument < own, 5)?;
-            arguments.push(argument);
-        }
-        terms.push(Term::Application { symbol, arguments });
+    let mut terms = Vec::with_capacity(count as usize);
+    for own in 0..count {
+        let left = source.rest.len();
+        terms.push(term(&mut source, own, &mut arities).map_err(refused(Part::Term, left))?);
     }
-    check(source.rest.is_empty(), 3)?;
+    check(source.rest.is_empty(), 3).map_err(refused(Part::Rest, source.rest.len()))?;
     Ok(terms)
+}
+
+fn number_of_terms(limits: Limits, source: &mut Source) -> Result<u32, u32> {
+    let count = source.number()?;
+    check(count as usize <= limits.terms, 4)?;
+    Ok(count)
+}
+
+/// The term of this index, with the counts of the symbols before it.
+fn term(source: &mut Source, own: u32, arities: &mut [Option<u32>]) -> Result<Term, u32> {
+    let first = source.number()?;
+    if first == 0 {
+        return Ok(Term::Variable);
+    }
+    let symbol = first - 1;
+    check(symbol <= MAX_SYMBOL, 4)?;
+    let arity = source.number()?;
+    check(arity <= MAX_ARITY, 4)?;
+    check(*arities[symbol as usize].get_or_insert(arity) == arity, 6)?;
+    let mut arguments = Vec::new();
+    for _ in 0..arity {
+        let argument = source.number()?;
+        check(argument < own, 5)?;
+        arguments.push(argument);
+    }
+    Ok(Term::Application { symbol, arguments })
 }
 
 /// Appends one number in shortest form.

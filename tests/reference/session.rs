@@ -1,7 +1,7 @@
-//! The session: what the program prints for what it reads.
+//! The session: what the program prints for what it reads, and what it says where that stops being a session.
 
 use super::area::OFFICE;
-use super::book::{decode, Source};
+use super::book::{decode_parts, Part, Source};
 use super::report::report;
 use super::table::State;
 use std::fmt::Write;
@@ -15,7 +15,7 @@ pub enum End {
     TooLong,
     Length(u32),
     LengthPastEnd,
-    Book(u32),
+    Book(Part, u32),
     StepNumber(u32),
     OtherNumber(u32),
     UnknownStep,
@@ -29,28 +29,46 @@ impl End {
             End::TooLong => Some(4),
             End::LengthPastEnd => Some(1),
             End::UnknownStep => Some(8),
-            End::Length(refusal) | End::Book(refusal) | End::StepNumber(refusal) | End::OtherNumber(refusal) => Some(*refusal),
+            End::Length(refusal) | End::Book(_, refusal) | End::StepNumber(refusal) | End::OtherNumber(refusal) => Some(*refusal),
             End::Input => None,
         }
     }
 }
 
-/// A session: the text that it prints, the numbers of the steps that it takes, and how it ends.
+/// A session: the text that it prints, what it says on standard error, the numbers of the steps that it takes, and how it ends: at the
+/// part of the input that begins at position `at`.
 pub struct Session {
     pub printed: String,
+    pub said: String,
     pub steps: Vec<u32>,
     pub end: End,
+    at: usize,
 }
 
 pub fn session(input: &[u8]) -> Session {
-    let mut session = Session { printed: String::new(), steps: Vec::new(), end: End::Input };
+    let mut session = Session { printed: String::new(), said: String::new(), steps: Vec::new(), end: End::Input, at: 0 };
     if let Err(end) = session.run(input) {
         session.end = end;
     }
     if let Some(refusal) = session.end.refusal() {
         line(&mut session.printed, &[refusal]);
+        session.said = format!("sessions: byte {}: refused with {refusal}: {}\n", session.at, words(refusal));
     }
     session
+}
+
+/// A refusal that ends a session, in words.
+fn words(refusal: u32) -> &'static str {
+    match refusal {
+        1 => "the bytes end within a number, or before one",
+        2 => "a number not in shortest form, of more than three bytes, or above 65,535",
+        3 => "bytes after the last term of the book",
+        4 => "a number of terms, a symbol or a count out of range, or a session of more than 65,536 bytes",
+        5 => "an argument that is not lower than its term",
+        6 => "a symbol with two counts",
+        8 => "an unknown step",
+        _ => panic!("no session ends with {refusal}"),
+    }
 }
 
 fn line(printed: &mut String, numbers: &[u32]) {
@@ -65,6 +83,7 @@ impl Session {
     /// Prints the line of the opening and of every step, but for a refusal that ends the session.
     fn run(&mut self, input: &[u8]) -> Result<(), End> {
         if input.len() > LONGEST {
+            self.at = LONGEST;
             return Err(End::TooLong);
         }
         let mut source = Source { rest: input };
@@ -73,10 +92,15 @@ impl Session {
             return Err(End::LengthPastEnd);
         }
         let (book, steps) = source.rest.split_at(length);
-        let mut state = State::opened(CAPACITY, decode(OFFICE, book).map_err(End::Book)?);
+        let terms = decode_parts(OFFICE, book).map_err(|refused| {
+            self.at = input.len() - source.rest.len() + refused.at;
+            End::Book(refused.part, refused.refusal)
+        })?;
+        let mut state = State::opened(CAPACITY, terms);
         line(&mut self.printed, &[0]);
         source.rest = steps;
         while !source.rest.is_empty() {
+            self.at = input.len() - source.rest.len();
             let step = source.number().map_err(End::StepNumber)?;
             let answer = match step {
                 1 => {

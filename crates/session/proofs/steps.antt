@@ -1,4 +1,3 @@
 pub mod Opening
-pub mod Fault
 pub mod Stepping
 pub mod Lines

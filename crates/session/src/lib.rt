@@ -1,10 +1,12 @@
-// A session over lent bytes (docs/SPEC.md, "Sessions"): opening it, what is asked for at a position of its input, one step of it,
-// and numbers as decimal text.
+// A session over lent bytes (docs/SPEC.md, "Sessions"): opening it, where it is refused, what is asked for at a position of its input,
+// one step of it, and numbers as decimal text.
 //
 // text     numbers as decimal text in a buffer
 // command  the command at a position of a session's input
 // steps    a session opened, and one step of it
+// fault    where a refused opening is refused
 
 pub mod command;
+pub mod fault;
 pub mod steps;
 pub mod text;

@@ -9,7 +9,6 @@ ghost use Rattle.model.specs.Limits.{office};
 ghost use Rattle.model.specs.Call.{callReport};
 ghost use Rattle.session.specs.command.Commands.{commandAt};
 ghost use Rattle.session.specs.steps.Effects.{openBook, start, reportedBy, stepAt};
-ghost use Rattle.session.specs.steps.Fault.{bookFault, openingFault};
 ghost use Rattle.session.specs.steps.Lines.{openingLine, lines, startRefusal, commandLines};
 use crate::command::Command;
 use step::answer::StepAnswer;
@@ -70,32 +69,6 @@ fn open_book(input: &[u8], at: usize, size: usize, area: &mut [u8]) -> Begun
         return Begun::Refused(refusal);
     }
     Begun::At(end)
-}
-
-// Where a refused opening is refused: the position of the part that is.
-pub fn opening_fault(input: &[u8]) -> usize
-    ensures { λ r. ⌜ r ≡ openingFault (now (input .entry)) ⌝ }
-{
-    if LONGEST < input.len() {
-        return LONGEST;
-    }
-    match leb128::read(input, 0) {
-        leb128::Decoded::Number { value, next } => book_fault(input, next, value as usize),
-        leb128::Decoded::Cut => 0,
-        leb128::Decoded::Invalid => 0,
-    }
-}
-
-// Where the book of `size` bytes at position `at` is refused: at the front of the session where it runs past the end.
-fn book_fault(input: &[u8], at: usize, size: usize) -> usize
-    requires { ⌜ at ≤ length (now input) ⌝ }
-    ensures { λ r. ⌜ r ≡ bookFault (now (input .entry)) (Number size at) ⌝ }
-{
-    if input.len() - at < size {
-        return 0;
-    }
-    let end = at + size;
-    at + office::opening::read_to(&input[at..end])
 }
 
 // Reports into the output.

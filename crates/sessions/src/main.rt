@@ -169,7 +169,7 @@ fn run_session(
     let opened = print(true, &text[..n]);
     match begun {
         Begun::Refused(refusal) => {
-            tell(session::steps::opening_fault(input), refusal);
+            tell(session::fault::opening_fault(input), refusal);
             input.len()
         }
         Begun::At(first) => steps(input, first, area, out, report, text, opened),

@@ -11,7 +11,7 @@ use Rattle.leb128.specs.declared.Decoded.{Decoded}
 use Rattle.leb128.specs.declared.Decoded.the-variants.{Number}
 use Rattle.model.specs.Limits.{office, maxSession}
 use Rattle.book.specs.decode.Unread.{readTo}
-use Rattle.session.specs.steps.Fault.{bookFault, openingFault}
+use Rattle.session.specs.fault.Fault.{bookFault, openingFault}
 
 module _ (input : List ℕ) (at size : ℕ) where
   -- a book that runs past the end

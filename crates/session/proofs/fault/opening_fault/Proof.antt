@@ -1,12 +1,12 @@
--- `steps::opening_fault` meets its contract: the session's length, the number at its front, and the book (proofs/steps/Fault.antt).
+-- `fault::opening_fault` meets its contract: the session's length, the number at its front, and the book (proofs/fault/Cases.antt).
 -- Assumes nothing.
 use mathlib.Core.Path.{refl}
 use borrow.Author.Needs.{needs}
-use Rattle.session.specs.steps.Fault.{bookFault}
+use Rattle.session.specs.fault.Fault.{bookFault}
 use Rattle.session.proofs.text.Numbers.{number-ahead}
-use Rattle.session.proofs.steps.Fault.{long-fault, fault-by}
-use Rattle.session.proofs.steps.opening_fault.Statement.{statement}
-use Rattle.session.proofs.steps.opening_fault.Tie as tie
+use Rattle.session.proofs.fault.Cases.{long-fault, fault-by}
+use Rattle.session.proofs.fault.opening_fault.Statement.{statement}
+use Rattle.session.proofs.fault.opening_fault.Tie as tie
 
 returns : tie.Need-returns
 returns c = long-fault _ (c .if1 .taken)

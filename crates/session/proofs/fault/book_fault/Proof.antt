@@ -1,8 +1,8 @@
--- `steps::book_fault` meets its contract: the book runs past the end, or is read up to the part that is refused. Assumes nothing.
+-- `fault::book_fault` meets its contract: the book runs past the end, or is read up to the part that is refused. Assumes nothing.
 use borrow.Author.Needs.{needs}
-use Rattle.session.proofs.steps.Fault.{past-fault, within-book, book-fault}
-use Rattle.session.proofs.steps.book_fault.Statement.{statement}
-use Rattle.session.proofs.steps.book_fault.Tie as tie
+use Rattle.session.proofs.fault.Cases.{past-fault, within-book, book-fault}
+use Rattle.session.proofs.fault.book_fault.Statement.{statement}
+use Rattle.session.proofs.fault.book_fault.Tie as tie
 
 returns : tie.Need-returns
 returns c = past-fault _ _ _ (c .if1 .taken)

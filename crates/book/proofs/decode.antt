@@ -5,4 +5,5 @@ pub mod Outcome
 pub mod Parsing
 pub mod Term
 pub mod TermRows
+pub mod Unread
 pub mod Whole

@@ -34,7 +34,7 @@ left-some bytes end h = rw (drop-cons bytes end 0 h)
 
 module _ (lim : Limits) (bytes : List ℕ) where
   -- the count, the terms, and what is left
-  book-parts : parseBook lim bytes ≡ andThen (parseBelow (lim .maxTerms + 1) 4 bytes) (λ n rest.
+  pub book-parts : parseBook lim bytes ≡ andThen (parseBelow (lim .maxTerms + 1) 4 bytes) (λ n rest.
       andThen (parseTerms n [] rest) (λ b rest′. need (isEmpty rest′) 3 (parsed b [])))
   unfolding parseBook
   book-parts = rw add-one (up-to-then (lim .maxTerms) 4 bytes _)
@@ -65,7 +65,7 @@ position : (bytes : List ℕ) (at : ℕ) (left : List ℕ) → left ≡ drop at 
 position bytes at left e w = rw (e, length-drop) (omega arith)
 
 module _ (lim : Limits) (bytes : List ℕ) where
-  book-unread : unreadBook lim bytes ≡ orLeft (parseBelow (lim .maxTerms + 1) 4 bytes) bytes (λ n rest. unreadTerms n [] rest)
+  pub book-unread : unreadBook lim bytes ≡ orLeft (parseBelow (lim .maxTerms + 1) 4 bytes) bytes (λ n rest. unreadTerms n [] rest)
   unfolding unreadBook
   book-unread = rw (up-to-then (lim .maxTerms) 4 bytes parsed, then-same, add-one)
 

@@ -1,5 +1,6 @@
 -- How far a book's bytes are read: up to the part that is refused, and to the end where none is (document 01, "Bytes"). The parts are
--- the number of terms, each term, and what is left behind the last one. Assumes nothing: these are definitions.
+-- the number of terms, each term, and what is left behind the last one. Definitions, and a statement of what is proved in
+-- proofs/decode/Unread.antt.
 use mathlib.Core.Path.{_≡_}
 use mathlib.Core.List.{List, [], _∷_, _++_}
 use Prim.Native.Nat.{ℕ, zero, suc, _-_, _≤_}
@@ -7,7 +8,7 @@ use lib.ListN.{length, drop}
 use lib.Dec.{leb}
 use Rattle.model.specs.Limits.{Limits}
 use Rattle.model.specs.Term.{Book}
-use Rattle.model.specs.BookBytes.{Parsed, parsed, unparsed, andThen, need, parseNumber, parseNode}
+use Rattle.model.specs.BookBytes.{Parsed, parsed, unparsed, andThen, need, parseNumber, parseNode, parseBook}
 use Rattle.book.specs.declared.parse.Advance.the-variants.{Next}
 use Rattle.book.specs.declared.decode.Terms.{Terms}
 use Rattle.book.specs.declared.decode.Terms.the-variants.{Read, Refused}
@@ -33,6 +34,10 @@ unreadBook lim bytes =
 -- How far a book is read: the position of the part that is refused, and the end where none is.
 unfoldable pub readTo : Limits → List ℕ → ℕ
 readTo lim bytes = length bytes - length (unreadBook lim bytes)
+
+-- STATEMENT. A book that is accepted is read to its end.
+abbrev pub AcceptedIsRead : Type 0
+AcceptedIsRead = (lim : Limits) (bytes : List ℕ) (b : Book) (rest : List ℕ) → parseBook lim bytes ≡ parsed b rest → readTo lim bytes ≡ length bytes
 
 -- What the reader of terms answers, case by case, where p is the outcome and `left` the bytes that are not read: they begin at the
 -- position that it names.

@@ -3,7 +3,7 @@
 //
 // parse   a number, and the parts of a term, at a position of the bytes
 // reader  a term, by a reader that moves through its parts
-// decode  all terms, and a book's bytes into term rows
+// decode  all terms, a book's bytes into term rows, and how far they are read
 // write   a term: its length, and writing it
 // encode  term rows into a book's bytes
 

@@ -3,7 +3,7 @@
 //
 // read     an area read into arrays, for the calls that show what it holds
 // steps    a step on an area
-// opening  a book opened in an area
+// opening  a book opened in an area, and where it is refused
 // copy     a book read and written back
 // entry    an entry of an area
 // books    the book of an area, written out

@@ -1,30 +1,105 @@
--- A book that is accepted is read to its end. Assumes nothing.
+-- What is not read of a book stands from the position on up to which it is read, and a book that is accepted is read to its end. Assumes
+-- nothing.
 use mathlib.Core.Path.{_≡_, refl, sym, _∙_}
 use mathlib.Core.List.{List, [], _∷_, _++_}
-use Prim.Native.Nat.{ℕ, zero, suc}
+use Prim.Native.Nat.{ℕ, zero, suc, _-_, _≤_}
 use native.Mathlib.Nat.{sub-zero}
 use native.Mathlib.Omega.{arith}
-use lib.ListN.{length}
-use Rattle.model.specs.Limits.{Limits}
-use Rattle.model.specs.Lists.{isEmpty}
+use lib.ListN.{length, drop, length-drop}
+use lib.Dec.{ltb, leb}
+use Rattle.leb128.specs.Number.{maxGroups, maxNumber, Read, number, cut, invalid, read}
+use Rattle.leb128.specs.Answer.{placed, readAt}
+use Rattle.model.specs.Limits.{Limits, maxArity, maxSymbol}
+use Rattle.model.specs.Lists.{all, isEmpty}
 use Rattle.model.specs.Term.{Node, Book}
-use Rattle.model.specs.BookBytes.{Parsed, parsed, unparsed, andThen, need, parseNumber, parseNode, parseTerms, parseBook}
+use Rattle.model.specs.BookBytes.{Parsed, parsed, unparsed, andThen, need, parseNumber, arityFits, parseArguments, parseApp, parseNode, parseTerms, parseBook}
+use Rattle.theory.proofs.Book.Gives.{Gives, need-gives, andThen-gives}
 use Rattle.book.specs.parse.Below.{parseBelow}
-use Rattle.book.specs.decode.Unread.{orLeft, unreadTerms, unreadBook, readTo, AcceptedIsRead}
+use Rattle.book.specs.decode.Unread.{orLeft, unreadTerms, unreadBook, readTo, UnreadIsLeft, AcceptedIsRead}
+use Rattle.book.proofs.reader.Below.{numberOf, number-read}
 use Rattle.book.proofs.decode.Parsing.{then-then}
 use Rattle.book.proofs.decode.Whole.{book-parts, book-unread}
+
+-- ---- WHAT IS NOT READ is left of the bytes.
+
+-- these are the bytes from a position on
+abbrev Left : List ℕ → List ℕ → Type 0
+Left bytes left = (at : ℕ) × (at ≤ length bytes) × (left ≡ drop at bytes)
+
+module _ (bytes : List ℕ) where
+  -- behind a number
+  number-left : (mid : List ℕ) → Left bytes mid → Gives (parseNumber mid) (λ n rest. Left bytes rest)
+  unfolding readAt placed
+  number-left mid (at, w, e) = rw (e, number-read bytes at) (go (read maxGroups maxNumber (drop at bytes)))
+    where
+      go : (r : Read) → Gives (numberOf bytes (placed (length bytes) r)) (λ n rest. Left bytes rest)
+      go (number n rest) = (length bytes - length rest, omega arith, refl)
+      go cut = tt
+      go invalid = tt
+
+  -- behind arguments
+  arguments-left : (t c : ℕ) (mid : List ℕ) → Left bytes mid → Gives (parseArguments t c mid) (λ args rest. Left bytes rest)
+  unfolding parseArguments
+  arguments-left t zero mid l = l
+  arguments-left t (suc c) mid l =
+      andThen-gives _ _ (parseNumber mid) _ (number-left mid l) λ a rest m.
+      need-gives _ (ltb a t) 5 _ λ _.
+      andThen-gives _ _ (parseArguments t c rest) _ (arguments-left t c rest m) λ args rest′ n. n
+
+  -- behind a term
+  node-left : (before : Book) (tag : ℕ) (mid : List ℕ) → Left bytes mid → Gives (parseNode before tag mid) (λ n rest. Left bytes rest)
+  unfolding parseNode parseApp
+  node-left before zero mid l = l
+  node-left before (suc s) mid l =
+      need-gives _ (leb s maxSymbol) 4 _ λ _.
+      andThen-gives _ _ (parseNumber mid) _ (number-left mid l) λ c rest m.
+      need-gives _ (leb c maxArity) 4 _ λ _.
+      need-gives _ (all (arityFits s c) before) 6 _ λ _.
+      andThen-gives _ _ (parseArguments (length before) c rest) _ (arguments-left (length before) c rest m) λ args rest′ n. n
+
+  -- and where a part is refused
+  part-left : {A : Type 0} (p : Parsed A) (mid : List ℕ) (then : A → List ℕ → List ℕ) → Left bytes mid → Gives p (λ a rest. Left bytes rest)
+      → ((a : A) (rest : List ℕ) → Left bytes rest → Left bytes (then a rest)) → Left bytes (orLeft p mid then)
+  unfolding orLeft
+  part-left (parsed a rest) mid then l g h = h a rest g
+  part-left (unparsed k) mid then l g h = l
+
+  terms-left : (k : ℕ) (before : Book) (mid : List ℕ) → Left bytes mid → Left bytes (unreadTerms k before mid)
+  unfolding unreadTerms
+  terms-left zero before mid l = l
+  terms-left (suc k) before mid l =
+      part-left (andThen (parseNumber mid) (parseNode before)) mid _ l
+      (andThen-gives _ _ (parseNumber mid) _ (number-left mid l) (node-left before))
+      (λ n rest m. terms-left k (before ++ n ∷ []) rest m)
+
+  book-left : (lim : Limits) → Left bytes (unreadBook lim bytes)
+  unfolding unreadBook
+  book-left lim =
+      let whole : Left bytes bytes = (0, omega arith, refl) in
+      part-left _ bytes _ whole
+      (andThen-gives _ _ (parseNumber bytes) _ (number-left bytes whole) λ n rest m. need-gives _ (leb n (lim .maxTerms)) 4 (parsed n rest) λ _. m)
+      (λ n rest m. terms-left n [] rest m)
+
+pub unread-is-left : UnreadIsLeft
+unfolding readTo
+unread-is-left lim bytes =
+    let l = book-left bytes lim in
+    let there : length bytes - length (unreadBook lim bytes) ≡ l .0 = rw (l .2, length-drop) (omega (arith, l .1)) in
+    l .2 ∙ rw there
+
+-- ---- A BOOK THAT IS ACCEPTED.
 
 -- a refusal is not an outcome that holds something
 not-parsed : {A : Type 0} {k : ℕ} {a : A} {rest : List ℕ} → unparsed k ≡ parsed a rest → ⊥
 not-parsed e = let z : _≡_ {A = ℕ} 0 1 = cc in omega arith
 
 -- behind terms that are accepted just the bytes after them are left
-terms-left : (k : ℕ) (before : Book) (bytes : List ℕ) (b : Book) (rest : List ℕ) → parseTerms k before bytes ≡ parsed b rest
+terms-passed : (k : ℕ) (before : Book) (bytes : List ℕ) (b : Book) (rest : List ℕ) → parseTerms k before bytes ≡ parsed b rest
     → unreadTerms k before bytes ≡ rest
 unfolding parseTerms unreadTerms andThen orLeft
-terms-left zero before bytes b rest e = cc
-terms-left (suc k) before bytes b rest e =
-    go (λ before′ bytes′. terms-left k before′ bytes′ b rest) (andThen (parseNumber bytes) (parseNode before))
+terms-passed zero before bytes b rest e = cc
+terms-passed (suc k) before bytes b rest e =
+    go (λ before′ bytes′. terms-passed k before′ bytes′ b rest) (andThen (parseNumber bytes) (parseNode before))
     (then-then (parseNumber bytes) (parseNode before) (λ n left. parseTerms k (before ++ n ∷ []) left) ∙ e)
   where
     go : ((before′ : Book) (bytes′ : List ℕ) → parseTerms k before′ bytes′ ≡ parsed b rest → unreadTerms k before′ bytes′ ≡ rest)
@@ -44,7 +119,7 @@ nothing-left lim bytes b rest e = book-unread lim bytes ∙ go (parseBelow _ 4 b
 
     ended : (n : ℕ) (left : List ℕ) (q : Parsed Book) → parseTerms n [] left ≡ q
         → andThen q (λ c end. need (isEmpty end) 3 (parsed c [])) ≡ parsed b rest → unreadTerms n [] left ≡ []
-    ended n left (parsed c end) t h = terms-left n [] left c end t ∙ empty c end h
+    ended n left (parsed c end) t h = terms-passed n [] left c end t ∙ empty c end h
     ended n left (unparsed m) t h = absurd (not-parsed h)
 
     go : (p : Parsed ℕ) → andThen p (λ n left. andThen (parseTerms n [] left) (λ c end. need (isEmpty end) 3 (parsed c []))) ≡ parsed b rest

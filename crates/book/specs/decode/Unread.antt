@@ -1,5 +1,5 @@
 -- How far a book's bytes are read: up to the part that is refused, and to the end where none is (document 01, "Bytes"). The parts are
--- the number of terms, each term, and what is left behind the last one. Definitions, and a statement of what is proved in
+-- the number of terms, each term, and what is left behind the last one. Definitions, and statements of what is proved in
 -- proofs/decode/Unread.antt.
 use mathlib.Core.Path.{_≡_}
 use mathlib.Core.List.{List, [], _∷_, _++_}
@@ -35,7 +35,10 @@ unreadBook lim bytes =
 unfoldable pub readTo : Limits → List ℕ → ℕ
 readTo lim bytes = length bytes - length (unreadBook lim bytes)
 
--- STATEMENT. A book that is accepted is read to its end.
+-- STATEMENTS. What is not read stands from that position on; and a book that is accepted is read to its end.
+abbrev pub UnreadIsLeft : Type 0
+UnreadIsLeft = (lim : Limits) (bytes : List ℕ) → unreadBook lim bytes ≡ drop (readTo lim bytes) bytes
+
 abbrev pub AcceptedIsRead : Type 0
 AcceptedIsRead = (lim : Limits) (bytes : List ℕ) (b : Book) (rest : List ℕ) → parseBook lim bytes ≡ parsed b rest → readTo lim bytes ≡ length bytes
 

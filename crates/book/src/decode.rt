@@ -30,8 +30,8 @@ enum Terms {
 // The `count` terms of a book, into rows that are all zero.
 fn read_terms(bytes: &[u8], at: usize, count: u32, rows: &mut [u32]) -> Terms
     requires { ⌜ (at ≤ length (now bytes)) × (termWords * count ≤ length (now rows)) × (now rows ≡ replicate (length (now rows)) 0) ⌝ }
-    ensures { λ r. ⌜ TermsOf (now (bytes .entry)) (parseTerms count [] (drop at (now (bytes .entry)))) (BookIn count (length (now (rows .entry))) (now (rows .exit)))
-        (unreadTerms count [] (drop at (now (bytes .entry)))) r ⌝ }
+    ensures { λ r. ⌜ TermsOf (now (bytes .entry)) (parseTerms count [] (drop at (now (bytes .entry))))
+        (BookIn count (length (now (rows .entry))) (now (rows .exit))) (unreadTerms count [] (drop at (now (bytes .entry)))) r ⌝ }
 {
     let mut counts = [0u8; layout::limits::SYMBOLS];
     let mut next = at;

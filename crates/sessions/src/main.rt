@@ -99,7 +99,7 @@ fn tell(at: usize, refusal: u32) {
     io::write_all(STDERR_FILENO, b"\n");
 }
 
-// Says so of the step at position `at`, where it is refused and ends the session. Behind any other step the session goes on at `next`.
+// Says so of the step at position `at` where the session stops at it and is over: `next` is then the end of the input.
 fn tell_stop(input: &[u8], at: usize, next: usize) {
     if next == input.len() {
         if let Command::Stopped(refusal) = session::command::command_at(input, at) {

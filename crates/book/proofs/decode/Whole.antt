@@ -126,5 +126,5 @@ module _ (lim : Limits) (bytes : List ℕ) (size : ℕ) (rows : List ℕ) where
     pub whole-book : (a : Terms) (end : ℕ) → Answered a → a ≡ Read end → length bytes ≤ end → Decoded 0 n end
     whole-book a end s q l =
         let d : Answered (Read end) = subst Answered q s in
-        book-answer n end (d .0 .0) (book-whole lim bytes n (drop next bytes) e (d .0 .0) end (d .0 .1) l) (subst (λ k. BookIn n k rows (d .0 .0)) long (d .0 .3))
-        (read-up-to lim bytes n (drop next bytes) e end (d .1) (d .0 .2))
+        book-answer n end (d .0 .0) (book-whole lim bytes n (drop next bytes) e (d .0 .0) end (d .0 .1) l)
+        (subst (λ k. BookIn n k rows (d .0 .0)) long (d .0 .3)) (read-up-to lim bytes n (drop next bytes) e end (d .1) (d .0 .2))

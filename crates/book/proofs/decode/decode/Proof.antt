@@ -62,7 +62,8 @@ returns-2 : tie.Need-returns-2
 returns-2 c =
     let read = c .before .before .before .before .before in
     let known = read .before .before .before in
-    refused-terms _ _ _ _ _ (known .value .given .0 .1 .0) (count-read known .0) (long known) (read .read-terms .result) _ _ (read .read-terms .ensures) (c .before .refusal .given .1)
+    refused-terms _ _ _ _ _ (known .value .given .0 .1 .0) (count-read known .0) (long known) (read .read-terms .result) _ _
+    (read .read-terms .ensures) (c .before .refusal .given .1)
 
 same-length-2 : tie.Need-same-length-2
 same-length-2 c = search needs

@@ -10,9 +10,11 @@
 #include <stdio.h>
 #include <stdlib.h>
 
-#define CAPACITY 64          /* entries; any number from 1 to 2,048 */
-#define ARGUMENTS 8          /* a symbol has at most so many */
-#define LONGEST_REPORT 47620 /* bytes; at any capacity */
+#define CAPACITY 64 /* entries; any number from 1 to FIT_MAX_CAPACITY */
+
+/* Of a pattern at most so many symbols and open places are printed. Entries share their parts, and printing writes a part out wherever it
+   stands: a pattern of 50 levels, each twice over the one below, would have 2 to the 50th symbols. */
+#define MOST_SYMBOLS 1000
 
 /* The book: the number of terms; then for each term 0 for a variable, or symbol plus 1, the number of arguments, the arguments.
    All numbers here are below 128 and take one byte each. */
@@ -46,7 +48,7 @@ struct entry {
     uint32_t left, right;
     uint32_t symbol_plus_1; /* 0 for an open place */
     uint32_t count;
-    uint32_t arguments[ARGUMENTS];
+    uint32_t arguments[FIT_MAX_ARGUMENTS];
 };
 
 struct report {
@@ -59,7 +61,7 @@ struct report {
 static void expect(const char *what, uint32_t refusal)
 {
     if (refusal) {
-        fprintf(stderr, "%s: refused with %u\n", what, (unsigned)refusal);
+        fprintf(stderr, "%s: refused with %u, %s\n", what, (unsigned)refusal, fit_refusal(refusal));
         exit(EXIT_FAILURE);
     }
 }
@@ -81,7 +83,7 @@ static uint32_t next_number(const uint8_t **bytes)
 /* Asks for the report and reads its numbers. */
 static void read_report(const uint8_t *area, size_t area_length, struct report *report)
 {
-    static uint8_t bytes[LONGEST_REPORT];
+    static uint8_t bytes[FIT_REPORT_BYTES_AT(CAPACITY)];
     const uint8_t *next = bytes;
     uint32_t written, i, k;
     expect("fit_report", fit_report(area, area_length, bytes, sizeof bytes, &written));
@@ -100,22 +102,30 @@ static void read_report(const uint8_t *area, size_t area_length, struct report *
     }
 }
 
-/* An entry as a pattern. An open place is printed by its entry: the same place everywhere has the same number. */
-static void print_pattern(const struct report *report, uint32_t i)
+/* An entry as a pattern. An open place is printed by its entry: the same place everywhere has the same number. Of the budget one is
+   taken for each symbol and open place; where it is used up, ".." is printed and nothing more. Gives whether all was printed. */
+static int print_pattern(const struct report *report, uint32_t i, uint32_t *budget)
 {
     const struct entry *entry = &report->entry[i];
     uint32_t k;
+    if (*budget == 0) {
+        printf("..");
+        return 0;
+    }
+    --*budget;
     if (!entry->symbol_plus_1) {
         printf("?%u", (unsigned)i);
-        return;
+        return 1;
     }
     printf("%s", symbols[entry->symbol_plus_1 - 1]);
     for (k = 0; k < entry->count; k++) {
         printf(k ? ", " : "(");
-        print_pattern(report, entry->arguments[k]);
+        if (!print_pattern(report, entry->arguments[k], budget))
+            return 0;
     }
     if (entry->count)
         printf(")");
+    return 1;
 }
 
 /* The fit lines, and what stands at each open place: on the left sheet, or on the right one. */
@@ -125,8 +135,9 @@ static void print_lines(const uint8_t *area, size_t area_length)
     uint32_t i;
     read_report(area, area_length, &report);
     for (i = 0; i < report.lines; i++) {
+        uint32_t budget = MOST_SYMBOLS;
         printf("  %s and %s: ", terms[pairs[i].left], terms[pairs[i].right]);
-        print_pattern(&report, report.line[i]);
+        print_pattern(&report, report.line[i], &budget);
         printf("\n");
     }
     for (i = 0; i < report.entries; i++)

@@ -1,5 +1,23 @@
-/* The fit table's C interface. docs/C-API.md says what each function promises; docs/SPEC.md what it means. A refusal changes no byte of
-   a book, an area or an output; it sets the answers, which are *entry, *turned, *appended, *written and the 14 fields, to 0. */
+/* The fit table's C interface: libfit.a, for x86-64 Linux. This header is enough to write a program; docs/C-API.md has the reasons,
+   worked bytes and advice, docs/SPEC.md the rules.
+
+   A book is a list of terms, numbered from 0: variables (open choices), and symbols over terms of lower numbers. An area is a run of
+   bytes that the caller lends; it holds a book, its bindings (choices that were fixed), and a table of entries. A line is a pair of
+   terms; its entry is read as a pattern, the narrowest one that covers both: a common entry is a symbol over its argument entries, an
+   open place is where the two sides have no common symbol.
+
+   - Every call returns 0 (FIT_OK) or the number of a refusal; fit_area_length alone returns a length. Numbers are never truncated:
+     one that is out of range is refused.
+   - A refusal changes no byte of a book, an area or an output, and sets every answer (*entry, *turned, *appended, *written, all
+     fields) to 0. An accepted call sets every answer. They need not be set before.
+   - No pointer is null, also where the length is 0: pass the address of any byte. No two buffers or answers of one call overlap.
+     Nothing in C can check this.
+   - Every call but opening tests the area whole and refuses one that is too short or not sound, so an area may come from anywhere. It
+     has no pointers and needs no alignment: copy it, move it, save it, load it as bytes. A program reads it (fit_area.h), and never
+     writes it.
+   - A call needs no heap and keeps nothing between calls. Give a thread that makes calls a stack of 1 MB. Several threads may call
+     fit_entry, fit_report and fit_write on one area at a time; while one of them calls fit_open, fit_add or fit_bind on it, no
+     other uses it. */
 #ifndef FIT_H
 #define FIT_H
 
@@ -10,34 +28,133 @@
 extern "C" {
 #endif
 
-/* The length in bytes that an area of this capacity needs; 0 for a capacity that is not 1 to 2048. */
+/* The number of this interface. It changes with every change that may break a program: a call, a refusal, a limit, a field, the
+   bytes of a book, a report or an area. */
+#define FIT_INTERFACE 1
+
+/* What a call returns. Of the tests of a call the first that fails decides; each call below lists its own in their order. */
+enum {
+    FIT_OK = 0,              /* accepted */
+    FIT_CUT = 1,             /* the bytes of a book end within a number, or before one */
+    FIT_BAD_NUMBER = 2,      /* a number of a book is not in shortest form, has more than three bytes, or is above 65,535 */
+    FIT_LEFT_OVER = 3,       /* bytes after the last term of a book */
+    FIT_OUT_OF_RANGE = 4,    /* a number of terms, a symbol, a count of arguments or a capacity is out of range */
+    FIT_NOT_LOWER = 5,       /* an argument is its own term or a higher one */
+    FIT_TWO_COUNTS = 6,      /* a symbol has two counts of arguments in one book */
+    FIT_NOT_SOUND = 7,       /* the area is too short, or is none that the calls leave */
+    FIT_NAMES_NOTHING = 8,   /* there is no such term, or no such entry */
+    FIT_NOT_FREE = 9,        /* what is to be bound has a symbol, or is bound already */
+    FIT_OCCURS = 10,         /* the value of the term contains the variable, or is it */
+    FIT_FULL = 11,           /* the step needs more entries than the capacity */
+    FIT_TOO_MANY_LINES = 12, /* the area has FIT_MAX_LINES lines */
+    FIT_TOO_SHORT = 13       /* the output is too short for the bytes to be written */
+};
+
+/* A refusal in a line of text. */
+static inline const char *fit_refusal(uint32_t refusal)
+{
+    switch (refusal) {
+    case FIT_OK:
+        return "accepted";
+    case FIT_CUT:
+        return "the bytes end within a number, or before one";
+    case FIT_BAD_NUMBER:
+        return "a number not in shortest form, of more than three bytes, or above 65,535";
+    case FIT_LEFT_OVER:
+        return "bytes after the last term of the book";
+    case FIT_OUT_OF_RANGE:
+        return "a number of terms, a symbol, a count or a capacity out of range";
+    case FIT_NOT_LOWER:
+        return "an argument that is not lower than its term";
+    case FIT_TWO_COUNTS:
+        return "a symbol with two counts";
+    case FIT_NOT_SOUND:
+        return "an area that is too short or not sound";
+    case FIT_NAMES_NOTHING:
+        return "a number that names no term or entry";
+    case FIT_NOT_FREE:
+        return "a variable that is bound already, or a symbol in its place";
+    case FIT_OCCURS:
+        return "a variable that occurs in the value it is bound to";
+    case FIT_FULL:
+        return "more entries than the capacity";
+    case FIT_TOO_MANY_LINES:
+        return "a line too many";
+    case FIT_TOO_SHORT:
+        return "an output that is too short";
+    default:
+        return "not a number of this interface";
+    }
+}
+
+/* The largest of each: terms of a book, entries of an area (its capacity is 1 to that), lines, arguments of a symbol; and the
+   highest symbol. */
+#define FIT_MAX_TERMS 1024
+#define FIT_MAX_CAPACITY 2048
+#define FIT_MAX_LINES 256
+#define FIT_MAX_ARGUMENTS 8
+#define FIT_MAX_SYMBOL 4095
+
+/* Bytes that always suffice. For an area of a capacity from 1 to FIT_MAX_CAPACITY, exactly what fit_area_length gives; for any book
+   (theory Lengths.antt: office-book-read, office-book); for any report (room-for-report), and for one of an area of this capacity
+   (report-written). */
+#define FIT_AREA_BYTES(capacity) (46096 + 56 * (size_t)(capacity))
+#define FIT_BOOK_BYTES 19458
+#define FIT_REPORT_BYTES 47620
+#define FIT_REPORT_BYTES_AT(capacity) (516 + 23 * (size_t)(capacity))
+
+/* The places of an entry's fields. */
+enum {
+    FIT_LEFT = 0,     /* the term on the left, as it was given: it may be a bound variable */
+    FIT_RIGHT = 1,    /* the term on the right */
+    FIT_KIND = 2,     /* FIT_OPEN_PLACE or FIT_COMMON */
+    FIT_SYMBOL = 3,   /* of a common entry the symbol of both sides, else 0 */
+    FIT_COUNT = 4,    /* its number of arguments, else 0 */
+    FIT_ARGUMENT = 5, /* the first of FIT_MAX_ARGUMENTS places: the argument entries, left to right, then 0 */
+    FIT_SAME_AS = 13, /* the lowest entry with the same two values; open places with one same-as are one open place */
+    FIT_FIELDS = 14   /* the number of fields */
+};
+
+/* The kinds of an entry. */
+enum { FIT_OPEN_PLACE = 0, FIT_COMMON = 1 };
+
+/* The bytes of a book are numbers: the number of terms; for each term 0 for a variable, or symbol plus 1, the count of its arguments
+   and their term numbers. A number is written seven bits to a byte, the lowest first, with 0x80 set in each byte but the last: one byte
+   below 128, two below 16,384, at most three, always as few as will do. */
+
+/* The length in bytes that an area of this capacity needs; 0 for a capacity that is not 1 to FIT_MAX_CAPACITY. */
 size_t fit_area_length(uint32_t capacity);
 
-/* Opens a book in an area. Gives 0, or refusal 4, 7, 1, 2, 3, 5 or 6; a refusal changes no byte of area. */
+/* Opens a book in an area, whatever that held, with no entries, no lines and nothing bound. Refuses with FIT_OUT_OF_RANGE (the
+   capacity), FIT_NOT_SOUND (the area is too short), then the book as its bytes come: FIT_CUT, FIT_BAD_NUMBER, FIT_OUT_OF_RANGE,
+   FIT_TWO_COUNTS, FIT_NOT_LOWER, FIT_LEFT_OVER. */
 uint32_t fit_open(uint32_t capacity, const uint8_t *book, size_t book_length, uint8_t *area, size_t area_length);
 
-/* Adds the line (l, r). Gives 0 and the line's entry in *entry, or refusal 7, 8, 12 or 11 and 0 in *entry; a refusal changes no
-   byte of area. */
+/* Adds the line of the terms l and r; lines are numbered from 0 as they are added. Gives the line's entry in *entry. Refuses with
+   FIT_NOT_SOUND, FIT_NAMES_NOTHING, FIT_TOO_MANY_LINES, FIT_FULL. */
 uint32_t fit_add(uint8_t *area, size_t area_length, uint32_t l, uint32_t r, uint32_t *entry);
 
-/* Fixes the choice (v, t): binds the variable v to the term t. Gives 0, in *turned how many old entries turned and in *appended how
-   many were appended, or refusal 7, 8, 9, 10 or 11 and 0 in both; a refusal changes no byte of area. */
+/* Fixes a choice: binds the variable v to the term t, once and for all. Gives in *turned how many open entries turned common, in
+   *appended how many entries were appended. Refuses with FIT_NOT_SOUND, FIT_NAMES_NOTHING, FIT_NOT_FREE, FIT_OCCURS, FIT_FULL. */
 uint32_t fit_bind(uint8_t *area, size_t area_length, uint32_t v, uint32_t t, uint32_t *turned, uint32_t *appended);
 
-/* Reads entry i into fields: left, right, kind (0 open, 1 common), symbol, count, eight argument entries, same-as. Gives 0, or
-   refusal 7 or 8 and zeros in all 14 fields. */
-uint32_t fit_entry(const uint8_t *area, size_t area_length, uint32_t i, uint32_t fields[14]);
+/* Reads entry i into FIT_FIELDS numbers. Entries are numbered from 0 and keep their numbers; so the first i that is refused with
+   FIT_NAMES_NOTHING is how many there are. Refuses with FIT_NOT_SOUND, FIT_NAMES_NOTHING. */
+uint32_t fit_entry(const uint8_t *area, size_t area_length, uint32_t i, uint32_t fields[FIT_FIELDS]);
 
-/* Writes the area's report to out. Gives 0 and the number of bytes in *written, or refusal 7 or 13 and 0 in *written; a refusal
-   changes no byte of out. */
+/* Writes the report to the front of out, and in *written how many bytes it has. It is numbers, as a book's bytes are: the number of
+   lines; each line's entry; the number of entries; for each of these the name of its left value, the name of its right value, then 0
+   for an open place, or symbol plus 1, the count and the argument entries. A value's name is the lowest term that has it. Entries with
+   the same two values are one here, numbered for this report alone: the lines' entries first, in the order of the lines, then the
+   arguments of each entry in rising number, left to right; none other is in it. Refuses with FIT_NOT_SOUND, FIT_TOO_SHORT. */
 uint32_t fit_report(const uint8_t *area, size_t area_length, uint8_t *out, size_t out_length, uint32_t *written);
 
-/* Writes the area's book to out; choices are not written. Gives 0 and the number of bytes in *written, or refusal 7 or 13 and 0
-   in *written; a refusal changes no byte of out. */
+/* Writes the area's book, the bytes from which it was opened, to the front of out, and in *written how many; bindings are not among
+   them. Refuses with FIT_NOT_SOUND, FIT_TOO_SHORT. */
 uint32_t fit_write(const uint8_t *area, size_t area_length, uint8_t *out, size_t out_length, uint32_t *written);
 
-/* Reads a book and writes it back to out, with no area. Gives 0 and the number of bytes in *written, or refusal 1 to 6 or
-   13 and 0 in *written; a refusal changes no byte of out. */
+/* Reads a book and writes it to the front of out, with no area, and in *written how many bytes it has. Refuses the book as fit_open
+   does, then with FIT_TOO_SHORT. */
 uint32_t fit_copy_book(const uint8_t *book, size_t book_length, uint8_t *out, size_t out_length, uint32_t *written);
 
 #ifdef __cplusplus

@@ -1,20 +1,28 @@
 /* Measures the stack that each call needs: the call runs on a stack of its own that was filled with a pattern, and what it
    overwrote is counted. The area is the one with the deepest walk: term 0, a variable, is bound to the highest term, and each
-   term has eight arguments, of which the last is the term before it. By hand: `tests/run stack`. */
+   term has eight arguments, of which the last is the term before it. Then a call runs on a stack that is too small, above a guard page
+   and other memory: it ends at the guard page. By hand: `tests/run stack`. */
 #include "fit.h"
 #include <pthread.h>
+#include <signal.h>
 #include <stdio.h>
 #include <stdlib.h>
 #include <string.h>
+#include <sys/mman.h>
+#include <sys/wait.h>
+#include <unistd.h>
 
-#define TERMS 1024u
-#define CAPACITY 2048u
+#define TERMS FIT_MAX_TERMS
+#define CAPACITY FIT_MAX_CAPACITY
 #define STACK (4u << 20)
+#define SMALL (128u << 10)
+#define OTHER (1u << 20)
+#define PAGE 4096u
 #define PATTERN 0xA5
 
-static uint8_t book[3 * (2 + 10 * TERMS)], *area, out[65536];
+static uint8_t book[3 * (2 + 10 * TERMS)], *area, out[FIT_REPORT_BYTES];
 static size_t book_length, area_length;
-static uint32_t refusal, first, second, fields[14];
+static uint32_t refusal, first, second, fields[FIT_FIELDS];
 
 static void number(uint32_t n)
 {
@@ -75,6 +83,52 @@ static size_t used(void (*call)(void))
     return STACK - untouched;
 }
 
+/* Other memory, the guard page, and the small stack, from low to high. */
+static uint8_t *low;
+
+/* The process ends with 0 where it was the guard page that was touched, and nothing below it. */
+static void on_fault(int signal, siginfo_t *fault, void *context)
+{
+    uint8_t *at = fault->si_addr;
+    size_t kept = 0;
+    (void)signal, (void)context;
+    while (kept < OTHER && low[kept] == PATTERN)
+        kept++;
+    _exit(!(kept == OTHER && low + OTHER <= at && at < low + OTHER + PAGE));
+}
+
+static void *on_small_stack(void *call)
+{
+    static uint8_t spare[65536];
+    stack_t handlers = {.ss_sp = spare, .ss_size = sizeof spare};
+    sigaltstack(&handlers, NULL);
+    return on_own_stack(call);
+}
+
+/* Whether the call ends at the guard page of a stack that is too small for it. */
+static int ends_at_guard(void (*call)(void))
+{
+    pthread_attr_t attr;
+    pthread_t thread;
+    struct sigaction action = {.sa_sigaction = on_fault, .sa_flags = SA_SIGINFO | SA_ONSTACK};
+    int status = 1;
+    fflush(stdout);
+    if (fork() == 0) {
+        low = mmap(NULL, OTHER + PAGE + SMALL, PROT_READ | PROT_WRITE, MAP_PRIVATE | MAP_ANONYMOUS, -1, 0);
+        if (low == MAP_FAILED)
+            _exit(1);
+        memset(low, PATTERN, OTHER);
+        mprotect(low + OTHER, PAGE, PROT_NONE);
+        sigaction(SIGSEGV, &action, NULL);
+        pthread_attr_init(&attr);
+        pthread_attr_setstack(&attr, low + OTHER + PAGE, SMALL);
+        if (pthread_create(&thread, &attr, on_small_stack, (void *)call) == 0)
+            pthread_join(thread, NULL);
+        _exit(1);
+    }
+    return wait(&status) > 0 && status == 0;
+}
+
 static int failed;
 
 /* Every call is accepted, the choice too, with which the deepest walk begins. */
@@ -99,6 +153,10 @@ int main(void)
     measure("fit_entry", run_entry, base);
     measure("fit_report", run_report, base);
     measure("fit_write", run_write, base);
+    int guarded = ends_at_guard(run_bind) && ends_at_guard(run_add) && ends_at_guard(run_entry) && ends_at_guard(run_report)
+        && ends_at_guard(run_write);
+    printf("on %u bytes of stack: %s\n", SMALL, guarded ? "each of the last five ends at the guard page" : "NOT at the guard page");
+    failed |= !guarded;
     free(area);
     return failed;
 }

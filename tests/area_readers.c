@@ -625,6 +625,7 @@ int main(void)
     /* Two SEEDs have no area in common: the first seed is moved by so many times 2 to the 32nd. */
     uint64_t first = OWN_SEED + (environment("SEED", 0) << 32), areas = AREAS * environment("TIMES", 1), passed = 0, failed = 0, i;
     int kind;
+    printf("%" PRIu64 " areas from seed 0x%016" PRIX64 "\n", areas, first);
     if (words_agree()) {
         passed++;
     } else {

@@ -155,11 +155,9 @@ static void fix_choice(uint8_t *area, size_t area_length, uint32_t variable, uin
 
 int main(void)
 {
-    size_t area_length = fit_area_length(CAPACITY), i;
-    uint8_t *area = malloc(area_length);
+    static uint8_t area[FIT_AREA_BYTES(CAPACITY)];
+    size_t area_length = sizeof area, i;
     uint32_t entry, turned, appended;
-    if (!area)
-        return EXIT_FAILURE;
 
     expect("fit_open", fit_open(CAPACITY, book, sizeof book, area, area_length));
     for (i = 0; i < PAIRS; i++)
@@ -172,6 +170,5 @@ int main(void)
 
     /* A refusal is a number and changes nothing. */
     printf("the liner once more: refused with %u\n", (unsigned)fit_bind(area, area_length, LINER, RUBBER, &turned, &appended));
-    free(area);
     return EXIT_SUCCESS;
 }

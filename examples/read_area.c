@@ -1,9 +1,9 @@
 /* Reads all that an area holds: its terms and bindings, its lines and entries, and the report.
 
    Build sheets of a sorter stand in a book. Two lines are added and two choices are fixed, and then everything is printed that a
-   program may read: terms, bindings and lines by fit_area.h, entries by fit_entry, and the numbers of fit_report. Entries and the
-   report number differently: an entry keeps its number, while each report numbers its entries afresh, and one number of it stands
-   for all entries with the same two values. An entry gives terms as they were given; the report gives names, the lowest term that
+   program may read: terms, bindings and lines by fit_area.h, entries by fit_entry, and the report by fit_report. The area's entries and
+   the report's are numbered apart: an entry of the area keeps its number, while each report numbers its own afresh, and one report
+   entry stands for all entries with the same two values. An entry gives terms as they were given; the report gives names, the lowest term that
    has the value.
 
    There is no malloc here. docs/C-API.md says how to build it, docs/SPEC.md what the numbers mean. */
@@ -72,7 +72,7 @@ static uint32_t make_steps(uint32_t capacity)
     return refusal;
 }
 
-/* An argument of a symbol: the number of a term, of an entry, or of the report. */
+/* An argument of a symbol: the number of a term, of an entry, or of a report entry. */
 static void print_argument(uint32_t k, uint32_t count, const char *what, uint32_t number)
 {
     printf("%s%s %u%s", k == 0 ? "(" : ", ", what, (unsigned)number, k + 1 == count ? ")" : "");
@@ -149,26 +149,26 @@ static uint32_t number_below(struct reader *reader, uint32_t limit)
     return 0;
 }
 
-/* The entries that are one number of the report: those whose same-as is this entry. */
+/* The entries that are one report entry: those whose same-as is this entry. */
 static void print_class(uint32_t lowest)
 {
     uint32_t i;
-    printf(" (entry %u", (unsigned)lowest);
+    printf(" (of entry %u", (unsigned)lowest);
     for (i = lowest + 1; i < fit_area_entries(area); i++)
         if (fit_area_field(area, i, FIT_SAME_AS) == lowest)
             printf(" and %u", (unsigned)i);
     printf(")");
 }
 
-/* One number of the report: the names of its two values, then 0 for an open place or symbol plus 1, the count and the arguments. Which
-   entry an argument is, is in the same place of the entry that this number is. */
-static void print_number(struct reader *reader, uint32_t number, uint32_t numbers, uint32_t entry_of[])
+/* A report entry: the names of its two values, then 0 for an open place or symbol plus 1, the count and the arguments. Which entry of the
+   area an argument is of, stands in the same place of the entry that this one is of. */
+static void print_report_entry(struct reader *reader, uint32_t i, uint32_t count_of_all, uint32_t entry_of[])
 {
     uint32_t left = number_below(reader, fit_area_terms(area));
     uint32_t right = number_below(reader, fit_area_terms(area));
     uint32_t symbol_plus_1 = number_below(reader, SYMBOLS + 1), count, k;
-    printf("  number %u", (unsigned)number);
-    print_class(entry_of[number]);
+    printf("  report entry %u", (unsigned)i);
+    print_class(entry_of[i]);
     printf(": left name %u, right name %u, ", (unsigned)left, (unsigned)right);
     if (symbol_plus_1 == 0) {
         printf("open place\n");
@@ -177,34 +177,34 @@ static void print_number(struct reader *reader, uint32_t number, uint32_t number
     printf("common, %s", symbols[symbol_plus_1 - 1]);
     count = number_below(reader, FIT_MAX_ARGUMENTS + 1);
     for (k = 0; k < count; k++) {
-        uint32_t argument = number_below(reader, numbers);
-        uint32_t entry = fit_area_field(area, entry_of[number], FIT_ARGUMENT + k);
+        uint32_t argument = number_below(reader, count_of_all);
+        uint32_t entry = fit_area_field(area, entry_of[i], FIT_ARGUMENT + k);
         entry_of[argument] = fit_area_field(area, entry, FIT_SAME_AS);
-        print_argument(k, count, "number", argument);
+        print_argument(k, count, "report entry", argument);
     }
     printf("\n");
 }
 
-/* The report. It has no entry numbers; the lines, and then the arguments, tell which entries each new number is. */
+/* The report. It has no numbers of the area's entries; the lines, and then the arguments, tell which entries each report entry is of. */
 static void print_report(void)
 {
     static uint8_t bytes[FIT_REPORT_BYTES_AT(LARGE_CAPACITY)];
-    static uint32_t number_of_line[FIT_MAX_LINES], entry_of[LARGE_CAPACITY];
+    static uint32_t entry_of_line[FIT_MAX_LINES], entry_of[LARGE_CAPACITY];
     struct reader reader = {bytes, 0};
-    uint32_t written, lines, numbers, i;
+    uint32_t written, lines, entries, i;
     expect("fit_report", fit_report(area, sizeof area, bytes, sizeof bytes, &written));
     reader.left = written;
     lines = number_below(&reader, FIT_MAX_LINES + 1);
     for (i = 0; i < lines; i++) {
-        number_of_line[i] = number_below(&reader, LARGE_CAPACITY);
-        entry_of[number_of_line[i]] = fit_area_field(area, fit_area_line(area, i), FIT_SAME_AS);
+        entry_of_line[i] = number_below(&reader, LARGE_CAPACITY);
+        entry_of[entry_of_line[i]] = fit_area_field(area, fit_area_line(area, i), FIT_SAME_AS);
     }
-    numbers = number_below(&reader, LARGE_CAPACITY + 1);
-    printf("report, by fit_report: %u bytes, %u numbers for entries\n", (unsigned)written, (unsigned)numbers);
+    entries = number_below(&reader, LARGE_CAPACITY + 1);
+    printf("report, by fit_report: %u bytes, %u report entries\n", (unsigned)written, (unsigned)entries);
     for (i = 0; i < lines; i++)
-        printf("  line %u: number %u\n", (unsigned)i, (unsigned)number_of_line[i]);
-    for (i = 0; i < numbers; i++)
-        print_number(&reader, i, numbers, entry_of);
+        printf("  line %u: report entry %u\n", (unsigned)i, (unsigned)entry_of_line[i]);
+    for (i = 0; i < entries; i++)
+        print_report_entry(&reader, i, entries, entry_of);
     if (reader.left > 0)
         stop("report", "bytes left over");
 }

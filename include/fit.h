@@ -1,10 +1,11 @@
-/* The fit table's C interface: libfit.a, for x86-64 Linux. This header is enough to write a program; docs/C-API.md has the reasons,
-   worked bytes and advice, docs/SPEC.md the rules.
+/* The fit table's C interface: libfit.a, for x86-64 Linux, in C99 or C++11. This header is enough to write a program; docs/C-API.md has
+   the reasons, worked bytes and advice, docs/SPEC.md the rules.
 
    A book is a list of terms, numbered from 0: variables (open choices), and symbols over terms of lower numbers. An area is a run of
    bytes that the caller lends; it holds a book, its bindings (choices that were fixed), and a table of entries. A line is a pair of
    terms; its entry is read as a pattern, the narrowest one that covers both: a common entry is a symbol over its argument entries, an
-   open place is where the two sides have no common symbol.
+   open place is where the two sides have no common symbol. A free variable has no symbol, so one free variable on both sides is an open
+   place too. A bound variable has the value of its term; two terms have the same value where all below them is the same.
 
    - Every call returns 0 (FIT_OK) or the number of a refusal; fit_area_length alone returns a length. Numbers are never truncated:
      one that is out of range is refused.
@@ -12,12 +13,13 @@
      fields) to 0. An accepted call sets every answer. They need not be set before.
    - No pointer is null, also where the length is 0: pass the address of any byte. No two buffers or answers of one call overlap.
      Nothing in C can check this.
-   - Every call but opening tests the area whole and refuses one that is too short or not sound, so an area may come from anywhere. It
-     has no pointers and needs no alignment: copy it, move it, save it, load it as bytes. A program reads it (fit_area.h), and never
-     writes it.
+   - An area has no pointers and needs no alignment: copy it, move it, save it, load it as bytes. It may be longer than it needs; what is
+     behind is never touched. A program reads it (fit_area.h), and never writes it.
+   - Every call but opening tests the area whole: on any bytes it is safe, and it refuses what is too short or not sound. But an area that
+     was altered may still be sound: what is saved or sent needs a checksum, and FIT_INTERFACE beside it.
    - A call needs no heap and keeps nothing between calls. Give a thread that makes calls a stack of 1 MB. Several threads may call
-     fit_entry, fit_report and fit_write on one area at a time; while one of them calls fit_open, fit_add or fit_bind on it, no
-     other uses it. */
+     fit_entry, fit_report and fit_write on one area at the same time, and read it by fit_area.h; while one of them calls fit_open,
+     fit_add or fit_bind on it, no other uses it. */
 #ifndef FIT_H
 #define FIT_H
 
@@ -41,7 +43,7 @@ enum {
     FIT_OUT_OF_RANGE = 4,    /* a number of terms, a symbol, a count of arguments or a capacity is out of range */
     FIT_NOT_LOWER = 5,       /* an argument is its own term or a higher one */
     FIT_TWO_COUNTS = 6,      /* a symbol has two counts of arguments in one book */
-    FIT_NOT_SOUND = 7,       /* the area is too short, or is none that the calls leave */
+    FIT_NOT_SOUND = 7,       /* the area is too short, or its parts do not agree; what calls leave is always sound */
     FIT_NAMES_NOTHING = 8,   /* there is no such term, or no such entry */
     FIT_NOT_FREE = 9,        /* what is to be bound has a symbol, or is bound already */
     FIT_OCCURS = 10,         /* the value of the term contains the variable, or is it */
@@ -87,8 +89,8 @@ static inline const char *fit_refusal(uint32_t refusal)
     }
 }
 
-/* The largest of each: terms of a book, entries of an area (its capacity is 1 to that), lines, arguments of a symbol; and the
-   highest symbol. */
+/* The largest of each: a book has 0 to so many terms, an area a capacity of 1 to so many entries and 0 to so many lines, a symbol
+   0 to so many arguments; symbols are 0 to FIT_MAX_SYMBOL. */
 #define FIT_MAX_TERMS 1024
 #define FIT_MAX_CAPACITY 2048
 #define FIT_MAX_LINES 256
@@ -105,7 +107,7 @@ static inline const char *fit_refusal(uint32_t refusal)
 
 /* The places of an entry's fields. */
 enum {
-    FIT_LEFT = 0,     /* the term on the left, as it was given: it may be a bound variable */
+    FIT_LEFT = 0,     /* the term on the left, as it was when the entry was appended: it may be a bound variable */
     FIT_RIGHT = 1,    /* the term on the right */
     FIT_KIND = 2,     /* FIT_OPEN_PLACE or FIT_COMMON */
     FIT_SYMBOL = 3,   /* of a common entry the symbol of both sides, else 0 */
@@ -126,12 +128,14 @@ enum { FIT_OPEN_PLACE = 0, FIT_COMMON = 1 };
 size_t fit_area_length(uint32_t capacity);
 
 /* Opens a book in an area, whatever that held, with no entries, no lines and nothing bound. Refuses with FIT_OUT_OF_RANGE (the
-   capacity), FIT_NOT_SOUND (the area is too short), then the book as its bytes come: FIT_CUT, FIT_BAD_NUMBER, FIT_OUT_OF_RANGE,
-   FIT_TWO_COUNTS, FIT_NOT_LOWER, FIT_LEFT_OVER. */
+   capacity), FIT_NOT_SOUND (the area is too short), then the book: its numbers are read one by one, and the first bad one decides,
+   FIT_CUT, FIT_BAD_NUMBER, FIT_OUT_OF_RANGE, for a count then FIT_TWO_COUNTS, for an argument FIT_NOT_LOWER; after the last
+   FIT_LEFT_OVER. */
 uint32_t fit_open(uint32_t capacity, const uint8_t *book, size_t book_length, uint8_t *area, size_t area_length);
 
-/* Adds the line of the terms l and r; lines are numbered from 0 as they are added. Gives the line's entry in *entry. Refuses with
-   FIT_NOT_SOUND, FIT_NAMES_NOTHING, FIT_TOO_MANY_LINES, FIT_FULL. */
+/* Adds the line of the terms l and r; lines are numbered from 0 as they are added. Gives the line's entry in *entry: the lowest with
+   these two values, whose FIT_LEFT and FIT_RIGHT may be other terms than l and r, or a new one. Refuses with FIT_NOT_SOUND,
+   FIT_NAMES_NOTHING, FIT_TOO_MANY_LINES, FIT_FULL. */
 uint32_t fit_add(uint8_t *area, size_t area_length, uint32_t l, uint32_t r, uint32_t *entry);
 
 /* Fixes a choice: binds the variable v to the term t, once and for all. Gives in *turned how many open entries turned common, in
@@ -143,10 +147,11 @@ uint32_t fit_bind(uint8_t *area, size_t area_length, uint32_t v, uint32_t t, uin
 uint32_t fit_entry(const uint8_t *area, size_t area_length, uint32_t i, uint32_t fields[FIT_FIELDS]);
 
 /* Writes the report to the front of out, and in *written how many bytes it has. It is numbers, as a book's bytes are: the number of
-   lines; each line's entry; the number of entries; for each of these the name of its left value, the name of its right value, then 0
-   for an open place, or symbol plus 1, the count and the argument entries. A value's name is the lowest term that has it. Entries with
-   the same two values are one here, numbered for this report alone: the lines' entries first, in the order of the lines, then the
-   arguments of each entry in rising number, left to right; none other is in it. Refuses with FIT_NOT_SOUND, FIT_TOO_SHORT. */
+   lines; each line's report entry; the number of report entries; for each of these the name of its left value, the name of its right
+   value, then 0 for an open place, or symbol plus 1, the count and the report entries of the arguments. A value's name is the lowest
+   term that has it. A report entry is all entries with the same two values. They are numbered for this report alone: those of the
+   lines first, in the order of the lines, then the arguments of each in rising number, left to right; none other is in it. Refuses with
+   FIT_NOT_SOUND, FIT_TOO_SHORT. */
 uint32_t fit_report(const uint8_t *area, size_t area_length, uint8_t *out, size_t out_length, uint32_t *written);
 
 /* Writes the area's book, the bytes from which it was opened, to the front of out, and in *written how many; bindings are not among

@@ -1,8 +1,8 @@
 /* Readers of an area's layout (docs/LAYOUT.md), so that no program writes offsets by hand. C99 or C++11.
 
    They are not proved; they are tested against fit_entry, fit_write and the report on many areas (tests/area_readers.c). They test
-   nothing themselves: an area that a call has just accepted is sound, and only of such an area may they be asked. Numbers of terms,
-   lines and entries are below their counts, and the place of an argument is below the count of its term. */
+   nothing themselves: an area that a call has just accepted is sound; call them only on such an area, with numbers of terms, lines and
+   entries that are below their counts, and places of arguments below the count of their term. */
 #ifndef FIT_AREA_H
 #define FIT_AREA_H
 
@@ -11,8 +11,8 @@
 /* What fit_area_bound_to gives for a term that is not bound. No term has this number. */
 #define FIT_UNBOUND UINT32_MAX
 
-/* The places of words: of the header's numbers, of the first word of each part, and in the row of a term. An entry's row has the
-   FIT_FIELDS words of fit.h. */
+/* Offsets in words, for the readers below: of the header's numbers, in the row of a term, and of the first word of each part. An entry's
+   row has the FIT_FIELDS words of fit.h. */
 enum {
     FIT_AREA_CAPACITY = 0,
     FIT_AREA_TERMS = 1,
@@ -20,12 +20,13 @@ enum {
     FIT_AREA_LINES = 3,
     FIT_AREA_HEADER_WORDS = 4,
 
-    FIT_AREA_TERM_SYMBOL = 0, /* symbol plus 1, or 0 for a variable */
+    FIT_AREA_TERM_SYMBOL_PLUS_1 = 0, /* 0 for a variable */
     FIT_AREA_TERM_COUNT = 1,
     FIT_AREA_TERM_ARGUMENT = 2,
     FIT_AREA_TERM_WORDS = FIT_AREA_TERM_ARGUMENT + FIT_MAX_ARGUMENTS,
 
     FIT_AREA_TERM_PART = FIT_AREA_HEADER_WORDS,
+    /* a word for each term: the term that it is bound to plus 1, or 0 */
     FIT_AREA_BINDING_PART = FIT_AREA_TERM_PART + FIT_AREA_TERM_WORDS * FIT_MAX_TERMS,
     FIT_AREA_LINE_PART = FIT_AREA_BINDING_PART + FIT_MAX_TERMS,
     FIT_AREA_ENTRY_PART = FIT_AREA_LINE_PART + FIT_MAX_LINES
@@ -71,13 +72,13 @@ static inline uint32_t fit_area_term_word(const uint8_t *area, uint32_t t, uint3
 /* Whether term t is a variable, as the book has it: 1 for a bound one too. */
 static inline int fit_area_is_variable(const uint8_t *area, uint32_t t)
 {
-    return fit_area_term_word(area, t, FIT_AREA_TERM_SYMBOL) == 0;
+    return fit_area_term_word(area, t, FIT_AREA_TERM_SYMBOL_PLUS_1) == 0;
 }
 
 /* The symbol of term t; 0 for a variable, but a symbol may be 0 too: ask fit_area_is_variable. */
 static inline uint32_t fit_area_symbol(const uint8_t *area, uint32_t t)
 {
-    uint32_t symbol_plus_1 = fit_area_term_word(area, t, FIT_AREA_TERM_SYMBOL);
+    uint32_t symbol_plus_1 = fit_area_term_word(area, t, FIT_AREA_TERM_SYMBOL_PLUS_1);
     return symbol_plus_1 == 0 ? 0 : symbol_plus_1 - 1;
 }
 
@@ -100,7 +101,8 @@ static inline uint32_t fit_area_bound_to(const uint8_t *area, uint32_t t)
     return term_plus_1 == 0 ? FIT_UNBOUND : term_plus_1 - 1;
 }
 
-/* The term that t stands for (dereference): bindings are followed to the last term, a free variable or one with a symbol. */
+/* The term that t stands for (dereference): bindings are followed to the last term, a free variable or one with a symbol. On an area
+   that is not sound it may never return. */
 static inline uint32_t fit_area_stands_for(const uint8_t *area, uint32_t t)
 {
     uint32_t next;

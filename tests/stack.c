@@ -1,7 +1,7 @@
 /* Measures the stack that each call needs: the call runs on a stack of its own that was filled with a pattern, and what it
-   overwrote is counted. The area is the one with the deepest walk: term 0, a variable, is bound to the highest term, and each
-   term has eight arguments, of which the last is the term before it. Then a call runs on a stack that is too small, above a guard page
-   and other memory: it ends at the guard page. By hand: `tests/run stack`. */
+   overwrote is counted. The areas are those with the deepest walks: terms that are each over the one before, and a variable bound to
+   the last; variables that are each bound to the next; and the same as a circle, which is refused. Then a call runs on a stack that is
+   too small, above a guard page and other memory: it ends at the guard page. By hand: `tests/run stack`. */
 #include "fit.h"
 #include <pthread.h>
 #include <signal.h>
@@ -23,6 +23,7 @@
 static uint8_t book[3 * (2 + 10 * TERMS)], *area, out[FIT_REPORT_BYTES];
 static size_t book_length, area_length;
 static uint32_t refusal, first, second, fields[FIT_FIELDS];
+static uint32_t chosen = TERMS - 1; /* what variable 0 is bound to */
 
 static void number(uint32_t n)
 {
@@ -34,8 +35,9 @@ static void number(uint32_t n)
 }
 
 /* Term 0 is a variable, term 1 a constant; each other term has seven times term 1 and the term before it. */
-static void make_book(void)
+static void make_terms(void)
 {
+    book_length = 0;
     number(TERMS);
     number(0);
     number(1), number(0);
@@ -47,10 +49,19 @@ static void make_book(void)
     }
 }
 
+/* Variables alone. */
+static void make_variables(void)
+{
+    book_length = 0;
+    number(TERMS);
+    for (uint32_t t = 0; t < TERMS; t++)
+        number(0);
+}
+
 static void run_length(void) { refusal = fit_area_length(CAPACITY) != area_length; }
 static void run_open(void) { refusal = fit_open(CAPACITY, book, book_length, area, area_length); }
 static void run_copy(void) { refusal = fit_copy_book(book, book_length, out, sizeof out, &first); }
-static void run_bind(void) { refusal = fit_bind(area, area_length, 0, TERMS - 1, &first, &second); }
+static void run_bind(void) { refusal = fit_bind(area, area_length, 0, chosen, &first, &second); }
 static void run_add(void) { refusal = fit_add(area, area_length, 0, TERMS - 1, &first); }
 static void run_entry(void) { refusal = fit_entry(area, area_length, 0, fields); }
 static void run_report(void) { refusal = fit_report(area, area_length, out, sizeof out, &first); }
@@ -131,32 +142,56 @@ static int ends_at_guard(void (*call)(void))
 
 static int failed;
 
-/* Every call is accepted, the choice too, with which the deepest walk begins. */
-static void measure(const char *name, void (*call)(void), size_t base)
+enum { LENGTH, OPEN, COPY, BIND, ADD, ENTRY, REPORT, WRITE, CALLS };
+
+static void (*const calls[CALLS])(void) = {run_length, run_open, run_copy, run_bind, run_add, run_entry, run_report, run_write};
+static const char *const names[CALLS] = {
+    "fit_area_length", "fit_open", "fit_copy_book", "fit_bind", "fit_add", "fit_entry", "fit_report", "fit_write"};
+static size_t most[CALLS];
+
+/* Makes a call, with this answer, and keeps the most that it has needed. */
+static void measure(int call, uint32_t expected)
 {
-    size_t n = used(call);
-    printf("%s: %zu bytes of stack, answer %u\n", name, n - base, refusal);
-    failed |= refusal != 0;
+    size_t base = used(run_nothing), n = used(calls[call]) - base;
+    failed |= refusal != expected;
+    if (most[call] < n)
+        most[call] = n;
+}
+
+static void measure_from(int first, int last, uint32_t expected)
+{
+    for (int call = first; call <= last; call++)
+        measure(call, expected);
+}
+
+/* Binds each variable from this one on to the next. */
+static void bind_from(uint32_t v)
+{
+    for (; v + 1 < TERMS; v++)
+        failed |= fit_bind(area, area_length, v, v + 1, &first, &second) != FIT_OK;
 }
 
 int main(void)
 {
     area_length = fit_area_length(CAPACITY);
     area = calloc(area_length, 1);
-    make_book();
-    size_t base = used(run_nothing);
-    measure("fit_area_length", run_length, base);
-    measure("fit_open", run_open, base);
-    measure("fit_copy_book", run_copy, base);
-    measure("fit_bind", run_bind, base);
-    measure("fit_add", run_add, base);
-    measure("fit_entry", run_entry, base);
-    measure("fit_report", run_report, base);
-    measure("fit_write", run_write, base);
-    int guarded = ends_at_guard(run_bind) && ends_at_guard(run_add) && ends_at_guard(run_entry) && ends_at_guard(run_report)
-        && ends_at_guard(run_write);
+    make_terms();
+    measure_from(LENGTH, WRITE, FIT_OK);
+    make_variables();
+    run_open();
+    bind_from(1);
+    chosen = 1;
+    measure_from(BIND, WRITE, FIT_OK);
+    /* the last variable is bound to the first (docs/LAYOUT.md) */
+    area[40976 + 4 * (TERMS - 1)] = 1;
+    measure_from(BIND, WRITE, FIT_NOT_SOUND);
+    for (int call = 0; call < CALLS; call++)
+        printf("%s: %zu bytes of stack\n", names[call], most[call]);
+    int guarded = 1;
+    for (int call = BIND; call <= WRITE; call++)
+        guarded &= ends_at_guard(calls[call]);
     printf("on %u bytes of stack: %s\n", SMALL, guarded ? "each of the last five ends at the guard page" : "NOT at the guard page");
-    failed |= !guarded;
+    printf("%s\n", failed ? "a call did NOT answer as it had to" : "all answers as they have to be");
     free(area);
-    return failed;
+    return failed || !guarded;
 }

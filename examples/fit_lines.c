@@ -14,7 +14,9 @@
 
 /* Of a pattern at most so many symbols and open places are printed. Entries share their parts, and printing writes a part out wherever it
    stands: a pattern of 50 levels, each twice over the one below, would have 2 to the 50th symbols. */
+#ifndef MOST_SYMBOLS
 #define MOST_SYMBOLS 1000
+#endif
 
 /* The book: the number of terms; then for each term 0 for a variable, or symbol plus 1, the number of arguments, the arguments.
    All numbers here are below 128 and take one byte each. */

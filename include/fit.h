@@ -49,7 +49,7 @@ enum {
     FIT_OCCURS = 10,         /* the value of the term contains the variable, or is it */
     FIT_FULL = 11,           /* the step needs more entries than the capacity */
     FIT_TOO_MANY_LINES = 12, /* the area has FIT_MAX_LINES lines */
-    FIT_TOO_SHORT = 13       /* the output is too short for the bytes to be written */
+    FIT_TOO_SHORT = 13,      /* the output is too short for the bytes to be written */
 };
 
 /* A refusal in a line of text. */
@@ -114,7 +114,7 @@ enum {
     FIT_COUNT = 4,    /* its number of arguments, else 0 */
     FIT_ARGUMENT = 5, /* the first of FIT_MAX_ARGUMENTS places: the argument entries, left to right, then 0 */
     FIT_SAME_AS = 13, /* the lowest entry with the same two values; open places with one same-as are one open place */
-    FIT_FIELDS = 14   /* the number of fields */
+    FIT_FIELDS = 14,  /* the number of fields */
 };
 
 /* The kinds of an entry. */

@@ -29,7 +29,7 @@ enum {
     /* a word for each term: the term that it is bound to plus 1, or 0 */
     FIT_AREA_BINDING_PART = FIT_AREA_TERM_PART + FIT_AREA_TERM_WORDS * FIT_MAX_TERMS,
     FIT_AREA_LINE_PART = FIT_AREA_BINDING_PART + FIT_MAX_TERMS,
-    FIT_AREA_ENTRY_PART = FIT_AREA_LINE_PART + FIT_MAX_LINES
+    FIT_AREA_ENTRY_PART = FIT_AREA_LINE_PART + FIT_MAX_LINES,
 };
 
 /* Word i of the area: four bytes, the lowest first, at any address. */

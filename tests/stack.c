@@ -1,6 +1,6 @@
 /* Measures the stack that each call needs: the call runs on a stack of its own that was filled with a pattern, and what it
    overwrote is counted. The areas are those with the deepest walks: terms that are each over the one before, and a variable bound to
-   the last; variables that are each bound to the next; and the same as a circle, which is refused. Then a call runs on a stack that is
+   the last; variables that are each bound to the next; and the same as a circle, which is refused. Then each call runs on a stack that is
    too small, above a guard page and other memory: it ends at the guard page. By hand: `tests/run stack`. */
 #include "fit.h"
 #include <pthread.h>
@@ -117,7 +117,7 @@ static void *on_small_stack(void *call)
 }
 
 /* Whether the call ends at the guard page of a stack that is too small for it. */
-static int ends_at_guard(void (*call)(void))
+static int ends_at_guard(void (*call)(void), size_t small)
 {
     pthread_attr_t attr;
     pthread_t thread;
@@ -125,14 +125,14 @@ static int ends_at_guard(void (*call)(void))
     int status = 1;
     fflush(stdout);
     if (fork() == 0) {
-        low = mmap(NULL, OTHER + PAGE + SMALL, PROT_READ | PROT_WRITE, MAP_PRIVATE | MAP_ANONYMOUS, -1, 0);
+        low = mmap(NULL, OTHER + PAGE + small, PROT_READ | PROT_WRITE, MAP_PRIVATE | MAP_ANONYMOUS, -1, 0);
         if (low == MAP_FAILED)
             _exit(1);
         memset(low, PATTERN, OTHER);
         mprotect(low + OTHER, PAGE, PROT_NONE);
         sigaction(SIGSEGV, &action, NULL);
         pthread_attr_init(&attr);
-        pthread_attr_setstack(&attr, low + OTHER + PAGE, SMALL);
+        pthread_attr_setstack(&attr, low + OTHER + PAGE, small);
         if (pthread_create(&thread, &attr, on_small_stack, (void *)call) == 0)
             pthread_join(thread, NULL);
         _exit(1);
@@ -188,9 +188,9 @@ int main(void)
     for (int call = 0; call < CALLS; call++)
         printf("%s: %zu bytes of stack\n", names[call], most[call]);
     int guarded = 1;
-    for (int call = BIND; call <= WRITE; call++)
-        guarded &= ends_at_guard(calls[call]);
-    printf("on %u bytes of stack: %s\n", SMALL, guarded ? "each of the last five ends at the guard page" : "NOT at the guard page");
+    for (int call = OPEN; call <= WRITE; call++)
+        guarded &= ends_at_guard(calls[call], SMALL / 4) && (call < BIND || ends_at_guard(calls[call], SMALL));
+    printf("on a small stack each call %s\n", guarded ? "ends at the guard page" : "does NOT end at the guard page");
     printf("%s\n", failed ? "a call did NOT answer as it had to" : "all answers as they have to be");
     free(area);
     return failed || !guarded;

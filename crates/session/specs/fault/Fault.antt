@@ -1,24 +1,41 @@
--- Where the opening of a session is refused: the position of the part that is (document 01, "Sessions"). Assumes nothing: these are
--- definitions.
-use mathlib.Core.List.{List}
+-- Where the opening of a session is refused: the position of the part that is (document 01, "Sessions"). Definitions, a sample by
+-- computation, and the statement of what is proved in proofs/fault/Accepted.antt. Assumes nothing.
+use mathlib.Core.Path.{_≡_, refl}
+use mathlib.Core.List.{List, [], _∷_, map}
 use mathlib.Core.Bool.{cond}
 use Prim.Native.Nat.{ℕ, _+_, _-_}
 use lib.ListN.{length, take, drop}
 use lib.Dec.{leb}
 use Rattle.leb128.specs.Number.{maxGroups, maxNumber}
-use Rattle.leb128.specs.Answer.{readAt}
+use Rattle.leb128.specs.Answer.{placed, readAt}
 use Rattle.leb128.specs.declared.Decoded.{Decoded}
 use Rattle.leb128.specs.declared.Decoded.the-variants.{Number, Cut, Invalid}
 use Rattle.model.specs.Limits.{office, maxSession}
-use Rattle.book.specs.decode.Unread.{readTo}
+use Rattle.model.specs.Computing.{computation}
+use Rattle.book.specs.decode.Unread.{orLeft, unreadTerms, unreadBook, readTo}
+use Rattle.session.specs.declared.steps.Begun.the-variants.{At}
+use Rattle.session.specs.steps.Effects.{start}
 
--- By the length that was read: the start where it is cut, not valid, or runs past the end of the input; else how far the book is read.
+-- By the length that was read: 0 where it is cut, not valid, or runs past the end of the input; else the position up to which the
+-- book is read.
 unfoldable pub bookFault : List ℕ → Decoded → ℕ
 bookFault input (Number n at) = cond (leb n (length input - at)) (at + readTo office (take n (drop at input))) 0
 bookFault input Cut = 0
 bookFault input Invalid = 0
 
--- In a session that is too long the first byte that is too many; else by the length at its front. Of an accepted opening it is the end
--- of the book.
+-- The longest session's length where the input is longer; else by the number at its front.
 unfoldable pub openingFault : List ℕ → ℕ
 openingFault input = cond (leb (length input) maxSession) (bookFault input (readAt maxGroups maxNumber input 0)) maxSession
+
+-- In order: a length that is cut, one past the end, one not in shortest form; a term, bytes after the last term, the number of terms; and
+-- an opening that is accepted.
+pub fault-samples :
+    map openingFault
+    ([] ∷ (5 ∷ 0 ∷ []) ∷ (128 ∷ 0 ∷ []) ∷ (4 ∷ 1 ∷ 1 ∷ 1 ∷ 0 ∷ []) ∷ (2 ∷ 0 ∷ 5 ∷ []) ∷ (3 ∷ 129 ∷ 8 ∷ 0 ∷ []) ∷ (1 ∷ 0 ∷ 5 ∷ []) ∷ []) ≡
+    0 ∷ 0 ∷ 0 ∷ 2 ∷ 2 ∷ 1 ∷ 2 ∷ []
+unfolding computation placed readAt orLeft unreadTerms unreadBook readTo bookFault openingFault
+fault-samples = refl
+
+-- STATEMENT. Of an opening that is accepted it is where the steps begin, the end of the book.
+abbrev pub AcceptedFault : Type 0
+AcceptedFault = (input area : List ℕ) (p : ℕ) → start input area .answer ≡ At p → openingFault input ≡ p

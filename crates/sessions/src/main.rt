@@ -67,7 +67,7 @@ fn tell_words(refusal: u32) -> bool {
     match refusal {
         1 => io::write_all(
             STDERR_FILENO,
-            b"the bytes end within a number, or before one",
+            b"the bytes end too early: within a number, before one, or before the end of the book",
         ),
         2 => io::write_all(
             STDERR_FILENO,

@@ -1,7 +1,7 @@
 //! Runs the session program on random sessions, valid and damaged, and compares every line that it prints, and what it says on
-//! standard error, with the second implementation. Every session is made from its own seed, which is printed where the two differ. The
-//! run prints how often each kind of session, refusal and end occurred, and fails where one did not. With `slow` it times the sessions
-//! that take longest of those tried, and compares nothing.
+//! standard error, with the second implementation; docs/SPEC.md's sessions and words are compared with its text. Every session is made
+//! from its own seed, which is printed where the two differ. The run prints how often each kind of session, refusal and end occurred,
+//! and fails where one did not. With `slow` it times the sessions that take longest of those tried, and compares nothing.
 
 mod bases;
 mod reference;
@@ -22,6 +22,7 @@ const LONG_EVERY: u64 = 1_600;
 /// The pieces that the program gets its input in; the first is all at once.
 const PIECES: [usize; 4] = [usize::MAX, 1_000, 7, 2];
 const PROGRAM: &str = "target/bin/sessions";
+const SPEC: &str = "docs/SPEC.md";
 
 /// What a program prints, and what it says on standard error; it has to end with 0.
 fn output(child: Child) -> Result<(String, String), String> {
@@ -327,21 +328,61 @@ impl Census {
 }
 
 /// docs/SPEC.md's sessions, what they print, and what they say on standard error.
-fn worked() -> Vec<(Vec<u8>, &'static str, &'static str)> {
+fn worked() -> Vec<(Vec<u8>, &'static str, String)> {
     let book_a = [6, 0, 4, 0, 2, 1, 0, 2, 1, 1, 3, 2, 2, 0, 3, 2, 3, 1];
     let sample = "0\n0 0\n0 1 0 3 4 5 3 2 1 2 2 3 2 1 2 0 1 0\n0 1 0\n0 1 0 3 4 4 3 2 1 2 2 2 2 1 2 0 0 4 0\n";
-    let cut = "sessions: byte 0: refused with 1: the bytes end within a number, or before one\n";
-    let invalid = "sessions: byte 0: refused with 2: a number not in shortest form, of more than three bytes, or above 65,535\n";
-    let cut_step = "sessions: byte 3: refused with 1: the bytes end within a number, or before one\n";
+    let said = End::said;
     vec![
-        (vec![], "1\n", cut),
-        (vec![2, 0], "1\n", cut),
-        (vec![0x80, 0], "2\n", invalid),
-        (vec![1, 0, 5], "0\n8\n", "sessions: byte 2: refused with 8: an unknown step\n"),
-        (vec![1, 0, 1, 0, 0, 3], "0\n8\n0 0 0\n", ""),
-        (vec![1, 0, 3, 0x80], "0\n0 0 0\n1\n", cut_step),
-        (of(&book_a, &[1, 4, 5, 3, 2, 0, 1, 3]), sample, ""),
+        (vec![], "1\n", said(0, 1)),
+        (vec![2, 0], "1\n", said(0, 1)),
+        (vec![0x80, 0], "2\n", said(0, 2)),
+        (vec![1, 0, 5], "0\n8\n", said(2, 8)),
+        (vec![1, 0, 1, 0, 0, 3], "0\n8\n0 0 0\n", String::new()),
+        (vec![1, 0, 3, 0x80], "0\n0 0 0\n1\n", said(3, 1)),
+        (vec![4, 1, 1, 1, 0], "5\n", said(2, 5)),
+        (vec![2, 0, 5], "3\n", said(2, 3)),
+        (of(&book_a, &[1, 4, 5, 3, 2, 0, 1, 3]), sample, String::new()),
     ]
+}
+
+/// The rows of the table of docs/SPEC.md that begins with this line: the cells of two columns.
+fn table<'a>(spec: &'a str, head: &str) -> Vec<(&'a str, &'a str)> {
+    let cells = |line: &'a str| line.strip_prefix("| ")?.strip_suffix(" |")?.split_once(" | ");
+    spec.lines().skip_while(|line| *line != head).skip(2).map_while(cells).collect()
+}
+
+/// Whether docs/SPEC.md's words are those that are compared, and whether every row of its tables of inputs is a session of `worked`
+/// that prints, or says, what the row has in backquotes.
+fn documented() -> Vec<bool> {
+    let spec = std::fs::read_to_string(SPEC).unwrap_or_else(|error| panic!("{SPEC}: {error}"));
+    let words = End::WORDS.map(|(refusal, words)| (refusal.to_string(), words));
+    let same = table(&spec, "| N | WORDS |") == words.each_ref().map(|(refusal, words)| (refusal.as_str(), *words));
+    if !same {
+        println!("{SPEC}: other words than {words:?}");
+    }
+    let mut holds = vec![same];
+    let worked = worked();
+    for (head, says) in [("| Input | Prints, one line each |", false), ("| Input | Says on standard error |", true)] {
+        let rows = table(&spec, head);
+        if rows.is_empty() {
+            println!("{SPEC}: no table {head}");
+        }
+        holds.push(!rows.is_empty());
+        for (input, cell) in rows {
+            let bytes: Vec<u8> = match input {
+                "none" => Vec::new(),
+                _ => input.split(' ').map(|byte| u8::from_str_radix(byte, 16).expect("a byte in hexadecimal")).collect(),
+            };
+            let lines: String = cell.split('`').skip(1).step_by(2).map(|line| format!("{line}\n")).collect();
+            let row = |(input, printed, said): &(Vec<u8>, &str, String)| *input == bytes && lines == if says { said } else { *printed };
+            let found = worked.iter().any(row);
+            if !found {
+                println!("{SPEC}: '{input}' is not among the sessions that are compared, with {cell}");
+            }
+            holds.push(found);
+        }
+    }
+    holds
 }
 
 /// The sessions that take longest of those tried, each filled up to the last byte with the same steps, and the length of its first
@@ -438,14 +479,14 @@ fn failing() -> Vec<bool> {
         }
         holds
     };
-    let nothing = |why| format!("sessions: standard input: {why}\nsessions: byte 0: refused with 1: the bytes end within a number, or before one\n");
-    let full = "sessions: standard output: No space left on device\nsessions: byte 4: refused with 8: an unknown step\n";
+    let nothing = |why| format!("sessions: standard input: {why}\n{}", End::said(0, 1));
+    let full = format!("sessions: standard output: No space left on device\n{}", End::said(4, 8));
     let closed = "sessions: standard output: Bad file descriptor\n";
     vec![
         ends(shell(&format!("exec {PROGRAM} <.")), "1\n", &nothing("Is a directory")),
         ends(shell(&format!("exec {PROGRAM} <&-")), "1\n", &nothing("Bad file descriptor")),
         ends(broken_off(&[1, 0, 3]), "0\n0 0 0\n", "sessions: standard input: Resource temporarily unavailable\n"),
-        ends(shell(&format!("printf '\\001\\000\\003\\003\\005' | {PROGRAM} >/dev/full")), "", full),
+        ends(shell(&format!("printf '\\001\\000\\003\\003\\005' | {PROGRAM} >/dev/full")), "", &full),
         ends(shell(&format!("printf '\\001\\000\\003' | {PROGRAM} >&-")), "", closed),
         output_closed(),
     ]
@@ -503,10 +544,11 @@ fn main() {
     let mut test = |holds: bool| if holds { passed += 1 } else { failed += 1 };
     for (i, (input, lines, said)) in worked().into_iter().enumerate() {
         let session = session(&input);
-        test((session.printed.as_str(), session.said.as_str()) == (lines, said));
-        test(compare(&format!("worked {i}"), &input, (lines, said), usize::MAX, 0));
-        test(compare(&format!("worked {i} byte by byte"), &input, (lines, said), 1, 2));
+        test((session.printed.as_str(), &session.said) == (lines, &said));
+        test(compare(&format!("worked {i}"), &input, (lines, &said), usize::MAX, 0));
+        test(compare(&format!("worked {i} byte by byte"), &input, (lines, &said), 1, 2));
     }
+    documented().into_iter().for_each(&mut test);
     failing().into_iter().for_each(&mut test);
     let seed = first_seed(SEED);
     println!("{} sessions from seed {seed:#x}", SESSIONS * times());

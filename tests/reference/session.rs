@@ -23,6 +23,23 @@ pub enum End {
 }
 
 impl End {
+    /// The refusals that end a session, in words.
+    pub const WORDS: [(u32, &str); 7] = [
+        (1, "the bytes end too early: within a number, before one, or before the end of the book"),
+        (2, "a number not in shortest form, of more than three bytes, or above 65,535"),
+        (3, "bytes after the last term of the book"),
+        (4, "a number of terms, a symbol or a count out of range, or a session of more than 65,536 bytes"),
+        (5, "an argument that is not lower than its term"),
+        (6, "a symbol with two counts"),
+        (8, "an unknown step"),
+    ];
+
+    /// What a session says where it ends with this refusal, at the part of the input that begins at position `at`.
+    pub fn said(at: usize, refusal: u32) -> String {
+        let (_, words) = End::WORDS.iter().find(|(number, _)| *number == refusal).expect("a refusal that ends a session");
+        format!("sessions: byte {at}: refused with {refusal}: {words}\n")
+    }
+
     /// The refusal that is printed last, if any.
     fn refusal(&self) -> Option<u32> {
         match self {
@@ -52,23 +69,9 @@ pub fn session(input: &[u8]) -> Session {
     }
     if let Some(refusal) = session.end.refusal() {
         line(&mut session.printed, &[refusal]);
-        session.said = format!("sessions: byte {}: refused with {refusal}: {}\n", session.at, words(refusal));
+        session.said = End::said(session.at, refusal);
     }
     session
-}
-
-/// A refusal that ends a session, in words.
-fn words(refusal: u32) -> &'static str {
-    match refusal {
-        1 => "the bytes end within a number, or before one",
-        2 => "a number not in shortest form, of more than three bytes, or above 65,535",
-        3 => "bytes after the last term of the book",
-        4 => "a number of terms, a symbol or a count out of range, or a session of more than 65,536 bytes",
-        5 => "an argument that is not lower than its term",
-        6 => "a symbol with two counts",
-        8 => "an unknown step",
-        _ => panic!("no session ends with {refusal}"),
-    }
 }
 
 fn line(printed: &mut String, numbers: &[u32]) {

@@ -10,7 +10,7 @@ use reference::{encode, first_seed, push_number, random_book, session, times, Ca
 use std::collections::BTreeMap;
 use std::io::{Read, Write};
 use std::os::fd::OwnedFd;
-use std::os::unix::net::UnixStream;
+use std::os::unix::net::{UnixDatagram, UnixStream};
 use std::process::{Child, Command, Stdio};
 use std::thread;
 use std::time::{Duration, Instant};
@@ -489,7 +489,19 @@ fn failing() -> Vec<bool> {
         ends(shell(&format!("printf '\\001\\000\\003\\003\\005' | {PROGRAM} >/dev/full")), "", &full),
         ends(shell(&format!("printf '\\001\\000\\003' | {PROGRAM} >&-")), "", closed),
         output_closed(),
+        said_at_once(),
     ]
+}
+
+/// Where the input stops being a session the program says it by one write: a socket of datagrams gets the whole line at once.
+fn said_at_once() -> bool {
+    let (ours, theirs) = UnixDatagram::pair().expect("a pair of sockets");
+    let mut command = Command::new("sh");
+    command.args(["-c", &format!("printf '\\001\\000\\005' | {PROGRAM}")]).stdout(Stdio::null()).stderr(OwnedFd::from(theirs));
+    let ended = command.status().is_ok_and(|status| status.success());
+    ours.set_nonblocking(true).expect("a socket that does not wait");
+    let mut said = [0; 1_000];
+    ended && ours.recv(&mut said).is_ok_and(|count| said[..count] == *End::said(2, 8).as_bytes())
 }
 
 /// The program with an input that fails after these bytes: nothing more is there, and the program is not to wait for it.

@@ -62,41 +62,78 @@ fn print(printed: bool, text: &[u8]) -> bool {
     false
 }
 
-// A refusal that ends a session, in words.
-fn tell_words(refusal: u32) -> bool {
+// Writes `part` at place `at` of `line`, as far as there is room, and gives the place behind it.
+fn append(line: &mut [u8], at: usize, part: &[u8]) -> usize
+    requires { ⌜ at ≤ length (now line) ⌝ }
+    ensures length { λ r. ⌜ length (now (line .exit)) ≡ length (now (line .entry)) ⌝ }
+    ensures count { λ r. ⌜ Counts r (now (line .exit)) ⌝ }
+{
+    let mut next = at;
+    let mut i: usize = 0;
+    while i < part.len() {
+        if next == line.len() {
+            return next;
+        }
+        line[next] = part[i];
+        next += 1;
+        i += 1;
+    }
+    next
+}
+
+// The same with the digits of a number.
+fn append_decimal(line: &mut [u8], at: usize, n: u64) -> usize
+    requires { ⌜ at ≤ length (now line) ⌝ }
+    ensures length { λ r. ⌜ length (now (line .exit)) ≡ length (now (line .entry)) ⌝ }
+    ensures count { λ r. ⌜ Counts r (now (line .exit)) ⌝ }
+{
+    let mut digits = [0u8; 20];
+    let k = io::decimal(n, &mut digits);
+    append(line, at, &digits[..k])
+}
+
+// The same with a refusal that ends a session, in words.
+fn append_words(line: &mut [u8], at: usize, refusal: u32) -> usize
+    requires { ⌜ at ≤ length (now line) ⌝ }
+    ensures length { λ r. ⌜ length (now (line .exit)) ≡ length (now (line .entry)) ⌝ }
+    ensures count { λ r. ⌜ Counts r (now (line .exit)) ⌝ }
+{
     match refusal {
-        1 => io::write_all(
-            STDERR_FILENO,
+        1 => append(
+            line,
+            at,
             b"the bytes end too early: within a number, before one, or before the end of the book",
         ),
-        2 => io::write_all(
-            STDERR_FILENO,
+        2 => append(
+            line,
+            at,
             b"a number not in shortest form, of more than three bytes, or above 65,535",
         ),
-        3 => io::write_all(STDERR_FILENO, b"bytes after the last term of the book"),
-        4 => io::write_all(
-            STDERR_FILENO,
+        3 => append(line, at, b"bytes after the last term of the book"),
+        4 => append(
+            line,
+            at,
             b"a number of terms, a symbol or a count out of range, or a session of more than 65,536 bytes",
         ),
-        5 => io::write_all(
-            STDERR_FILENO,
-            b"an argument that is not lower than its term",
-        ),
-        6 => io::write_all(STDERR_FILENO, b"a symbol with two counts"),
-        8 => io::write_all(STDERR_FILENO, b"an unknown step"),
-        _ => false,
+        5 => append(line, at, b"an argument that is not lower than its term"),
+        6 => append(line, at, b"a symbol with two counts"),
+        8 => append(line, at, b"an unknown step"),
+        _ => append(line, at, b""),
     }
 }
 
-// Says at which position the input stops being a session, and the refusal.
+// Says at which position the input stops being a session, and the refusal, by one write. The line has at most 154 bytes: the longest
+// words have 91, the two numbers 20 and 10 digits.
 fn tell(at: usize, refusal: u32) {
-    io::write_all(STDERR_FILENO, b"sessions: byte ");
-    io::print_decimal(STDERR_FILENO, at as u64);
-    io::write_all(STDERR_FILENO, b": refused with ");
-    io::print_decimal(STDERR_FILENO, refusal as u64);
-    io::write_all(STDERR_FILENO, b": ");
-    tell_words(refusal);
-    io::write_all(STDERR_FILENO, b"\n");
+    let mut line = [0u8; 200];
+    let mut n = append(&mut line, 0, b"sessions: byte ");
+    n = append_decimal(&mut line, n, at as u64);
+    n = append(&mut line, n, b": refused with ");
+    n = append_decimal(&mut line, n, refusal as u64);
+    n = append(&mut line, n, b": ");
+    n = append_words(&mut line, n, refusal);
+    n = append(&mut line, n, b"\n");
+    io::write_all(STDERR_FILENO, &line[..n]);
 }
 
 // Says so of the step at position `at` where the session stops at it and is over: `next` is then the end of the input.

@@ -8,30 +8,22 @@ ghost use Rattle.model.specs.Area.{termWords};
 ghost use Rattle.model.specs.BookBytes.{parseTerms, parseBook};
 ghost use Rattle.theory.specs.Modest.{Modest};
 ghost use Rattle.layout.specs.limits.Limits.{limitsOf};
-ghost use Rattle.book.specs.parse.Parts.{BookIn};
+ghost use Rattle.book.specs.parse.Parts.{AdvanceOf, BookIn};
 ghost use Rattle.book.specs.decode.Rows.{bookRows, decodedRefusal, decodedBook};
-ghost use Rattle.book.specs.decode.Unread.{unreadTerms, readTo, TermsOf};
+ghost use Rattle.book.specs.decode.Unread.{unreadTerms, readTo};
 use crate::parse::Advance;
 use crate::parse::Part;
 
-// What decoding answers: 0 or the refusal, the number of terms, and the position of the part that is refused, the end where none is.
+// What decoding answers: 0 or the refusal, and the number of terms.
 pub struct Decoding {
     pub refusal: u32,
     pub terms: u32,
-    pub at: usize,
-}
-
-// What reading the terms answers: the position behind them, or the refusal and the position of the term that is refused.
-enum Terms {
-    Read(usize),
-    Refused { refusal: u32, at: usize },
 }
 
 // The `count` terms of a book, into rows that are all zero.
-fn read_terms(bytes: &[u8], at: usize, count: u32, rows: &mut [u32]) -> Terms
+fn read_terms(bytes: &[u8], at: usize, count: u32, rows: &mut [u32]) -> Advance
     requires { ⌜ (at ≤ length (now bytes)) × (termWords * count ≤ length (now rows)) × (now rows ≡ replicate (length (now rows)) 0) ⌝ }
-    ensures { λ r. ⌜ TermsOf (now (bytes .entry)) (parseTerms count [] (drop at (now (bytes .entry))))
-        (BookIn count (length (now (rows .entry))) (now (rows .exit))) (unreadTerms count [] (drop at (now (bytes .entry)))) r ⌝ }
+    ensures { λ r. ⌜ AdvanceOf (now (bytes .entry)) (parseTerms count [] (drop at (now (bytes .entry)))) (BookIn count (length (now (rows .entry))) (now (rows .exit))) r ⌝ }
 {
     let mut counts = [0u8; layout::limits::SYMBOLS];
     let mut next = at;
@@ -39,11 +31,11 @@ fn read_terms(bytes: &[u8], at: usize, count: u32, rows: &mut [u32]) -> Terms
     while t < count {
         match crate::reader::read_term(bytes, next, t, &mut counts, rows) {
             Advance::Next(after) => next = after,
-            Advance::Refused(refusal) => return Terms::Refused { refusal, at: next },
+            Advance::Refused(n) => return Advance::Refused(n),
         }
         t += 1;
     }
-    Terms::Read(next)
+    Advance::Next(next)
 }
 
 // Decodes a book into the rows of as many terms as the limit, which are all zero. After a refusal nothing is promised of the
@@ -53,35 +45,61 @@ pub fn decode(lim: layout::limits::Limits, bytes: &[u8], rows: &mut [u32]) -> De
     ensures refusal { λ r. ⌜ r .refusal ≡ decodedRefusal (parseBook (limitsOf lim) (now (bytes .entry))) ⌝ }
     ensures terms { λ r. ⌜ r .terms ≡ length (decodedBook (parseBook (limitsOf lim) (now (bytes .entry)))) ⌝ }
     ensures rows { λ r. ⌜ (r .refusal ≡ 0 → now (rows .exit) ≡ bookRows (termWords * lim .terms) (decodedBook (parseBook (limitsOf lim) (now (bytes .entry))))) ⌝ }
-    ensures at { λ r. ⌜ r .at ≡ readTo (limitsOf lim) (now (bytes .entry)) ⌝ }
 {
     match crate::parse::read_below(bytes, 0, lim.terms as u32 + 1, 4) {
         Part::Refused(n) => Decoding {
             refusal: n,
             terms: 0,
-            at: 0,
         },
         Part::Value { value, next } => match read_terms(bytes, next, value, rows) {
-            Terms::Refused { refusal, at } => Decoding {
-                refusal,
+            Advance::Refused(n) => Decoding {
+                refusal: n,
                 terms: 0,
-                at,
             },
-            Terms::Read(end) => {
+            Advance::Next(end) => {
                 if end < bytes.len() {
                     Decoding {
                         refusal: 3,
                         terms: 0,
-                        at: end,
                     }
                 } else {
                     Decoding {
                         refusal: 0,
                         terms: value,
-                        at: end,
                     }
                 }
             }
         },
+    }
+}
+
+// The position of the first of the `count` terms that is refused, the one behind the last where none is.
+fn terms_read_to(bytes: &[u8], at: usize, count: u32, rows: &mut [u32]) -> usize
+    requires { ⌜ (at ≤ length (now bytes)) × (termWords * count ≤ length (now rows)) × (now rows ≡ replicate (length (now rows)) 0) ⌝ }
+    ensures unread { λ r. ⌜ unreadTerms count [] (drop at (now (bytes .entry))) ≡ drop r (now (bytes .entry)) ⌝ }
+    ensures within { λ r. ⌜ r ≤ length (now (bytes .entry)) ⌝ }
+{
+    let mut counts = [0u8; layout::limits::SYMBOLS];
+    let mut next = at;
+    let mut t = 0;
+    while t < count {
+        match crate::reader::read_term(bytes, next, t, &mut counts, rows) {
+            Advance::Next(after) => next = after,
+            Advance::Refused(n) => return next,
+        }
+        t += 1;
+    }
+    next
+}
+
+// How far a book is read: the position of the part that is refused, and the end where none is; the rows are those of `decode`.
+// It is no part of what `decode` answers: each opening would have to keep where its term begins, measured at 6 % of its time.
+pub fn read_to(lim: layout::limits::Limits, bytes: &[u8], rows: &mut [u32]) -> usize
+    requires { ⌜ Modest (limitsOf lim) × (now rows ≡ replicate (termWords * lim .terms) 0) ⌝ }
+    ensures { λ r. ⌜ r ≡ readTo (limitsOf lim) (now (bytes .entry)) ⌝ }
+{
+    match crate::parse::read_below(bytes, 0, lim.terms as u32 + 1, 4) {
+        Part::Refused(n) => 0,
+        Part::Value { value, next } => terms_read_to(bytes, next, value, rows),
     }
 }

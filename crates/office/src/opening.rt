@@ -48,6 +48,5 @@ pub fn read_to(book: &[u8]) -> usize
     ensures { λ r. ⌜ r ≡ readTo office (now (book .entry)) ⌝ }
 {
     let mut rows = [0u32; layout::limits::ROWS];
-    let decoded = book::decode::decode(layout::limits::OFFICE, book, &mut rows);
-    decoded.at
+    book::decode::read_to(layout::limits::OFFICE, book, &mut rows)
 }

@@ -14,9 +14,8 @@ use Rattle.model.specs.BookBytes.{unparsed, andThen, parseTerms}
 use Rattle.book.specs.declared.parse.Advance.{Advance}
 use Rattle.book.specs.declared.parse.Advance.the-variants.{Next, Refused}
 use Rattle.layout.proofs.limits.Counts.{Counted, counted-none, counted-more, length-noted}
-use Rattle.book.specs.declared.decode.Terms.the-variants.{Read as AllRead}
 use Rattle.book.specs.decode.Rows.{bookRows}
-use Rattle.book.specs.decode.Unread.{orLeft, unreadTerms, TermsOf}
+use Rattle.book.specs.decode.Unread.{orLeft, unreadTerms}
 use Rattle.book.specs.parse.Parts.{parseTerm, AdvanceOf, TermIn, BookIn}
 use Rattle.book.proofs.decode.Counts.{term-parsed, term-unread}
 use Rattle.book.proofs.decode.TermRows.{rows-none, rows-more, length-more}
@@ -91,17 +90,28 @@ module _ (bytes : List ℕ) (at count size : ℕ) where
           → Read bytes at count size rows′ counts′ after (t + 1)
       read-more a after m s e = more after m (subst Answered e s)
 
-      pub read-refused : (a : Advance) (k : ℕ) → Answered a → a ≡ Refused k
-          → (parseTerms count [] (drop at bytes) ≡ unparsed k) × (unreadTerms count [] (drop at bytes) ≡ drop next bytes) × (next ≤ length bytes)
-      unfolding andThen orLeft
-      read-refused a k s e =
-          let d : parseTerm counts t (drop next bytes) ≡ unparsed k = subst Answered e s in
-          (next-parsed ∙ rw d, next-unread ∙ rw d, r .within)
+      -- at a refusal the outcome is that refusal, and the term that is refused is not read
+      pub read-refused : (a : Advance) (k : ℕ) → Answered a → a ≡ Refused k → parseTerms count [] (drop at bytes) ≡ unparsed k
+      unfolding andThen
+      read-refused a k s e = let d : parseTerm counts t (drop next bytes) ≡ unparsed k = subst Answered e s in next-parsed ∙ rw d
 
-  pub read-all : (rows counts : List ℕ) (next t : ℕ) → Read bytes at count size rows counts next t → count ≤ t
-      → TermsOf bytes (parseTerms count [] (drop at bytes)) (BookIn count size rows) (unreadTerms count [] (drop at bytes)) (AllRead next)
-  unfolding parseTerms unreadTerms
-  read-all rows counts next t r l =
-      let left : count - t ≡ 0 = omega arith in
-      let whole : t ≡ count = omega arith in
-      ((r .book, r .parse ∙ rw left, r .within, record { as-many = r .as-many ∙ whole; written = r .written }), r .unread ∙ rw left)
+      pub unread-refused : (a : Advance) (k : ℕ) → Answered a → a ≡ Refused k
+          → (unreadTerms count [] (drop at bytes) ≡ drop next bytes) × (next ≤ length bytes)
+      unfolding orLeft
+      unread-refused a k s e =
+          let d : parseTerm counts t (drop next bytes) ≡ unparsed k = subst Answered e s in
+          (next-unread ∙ rw d, r .within)
+
+  module _ (rows counts : List ℕ) (next t : ℕ) (r : Read bytes at count size rows counts next t) (l : count ≤ t) where
+    pub read-all : AdvanceOf bytes (parseTerms count [] (drop at bytes)) (BookIn count size rows) (Next next)
+    unfolding parseTerms
+    read-all =
+        let left : count - t ≡ 0 = omega arith in
+        let whole : t ≡ count = omega arith in
+        (r .book, r .parse ∙ rw left, r .within, record { as-many = r .as-many ∙ whole; written = r .written })
+
+    pub unread-all : (unreadTerms count [] (drop at bytes) ≡ drop next bytes) × (next ≤ length bytes)
+    unfolding unreadTerms
+    unread-all =
+        let left : count - t ≡ 0 = omega arith in
+        (r .unread ∙ rw left, r .within)

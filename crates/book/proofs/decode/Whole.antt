@@ -13,12 +13,12 @@ use Rattle.model.specs.Lists.{isEmpty}
 use Rattle.model.specs.Term.{Book}
 use Rattle.model.specs.BookBytes.{parsed, unparsed, andThen, need, parseTerms, parseBook}
 use Rattle.theory.proofs.Book.Opening.{book-positive}
-use Rattle.book.specs.declared.decode.Terms.{Terms}
-use Rattle.book.specs.declared.decode.Terms.the-variants.{Read, Refused}
+use Rattle.book.specs.declared.parse.Advance.{Advance}
+use Rattle.book.specs.declared.parse.Advance.the-variants.{Next, Refused}
 use Rattle.book.specs.decode.Rows.{bookRows, decodedRefusal, decodedBook}
-use Rattle.book.specs.decode.Unread.{orLeft, unreadTerms, unreadBook, readTo, TermsOf}
+use Rattle.book.specs.decode.Unread.{orLeft, unreadTerms, unreadBook, readTo}
 use Rattle.book.specs.parse.Below.{parseBelow}
-use Rattle.book.specs.parse.Parts.{BookIn}
+use Rattle.book.specs.parse.Parts.{AdvanceOf, BookIn}
 use Rattle.book.proofs.decode.Parsing.{then-same, up-to-then}
 
 -- ---- the outcomes
@@ -70,12 +70,12 @@ module _ (lim : Limits) (bytes : List ℕ) where
   book-unread = rw (up-to-then (lim .maxTerms) 4 bytes parsed, then-same, add-one)
 
   -- nothing where the count is refused
-  read-none : (k : ℕ) → parseBelow (lim .maxTerms + 1) 4 bytes ≡ unparsed k → 0 ≡ readTo lim bytes
+  pub read-none : (k : ℕ) → parseBelow (lim .maxTerms + 1) 4 bytes ≡ unparsed k → 0 ≡ readTo lim bytes
   unfolding readTo orLeft
   read-none k e = rw (book-unread, e, sub-self)
 
   -- and else up to where the terms are read
-  read-up-to : (n : ℕ) (rest : List ℕ) → parseBelow (lim .maxTerms + 1) 4 bytes ≡ parsed n rest → (at : ℕ)
+  pub read-up-to : (n : ℕ) (rest : List ℕ) → parseBelow (lim .maxTerms + 1) 4 bytes ≡ parsed n rest → (at : ℕ)
       → unreadTerms n [] rest ≡ drop at bytes → at ≤ length bytes → at ≡ readTo lim bytes
   unfolding readTo orLeft
   read-up-to n rest e at u w = position bytes at (unreadBook lim bytes) (book-unread ∙ rw (e, u)) w
@@ -87,44 +87,39 @@ pub zeros-length : {rows : List ℕ} (size : ℕ) → rows ≡ replicate size 0 
 zeros-length size e = ap length e ∙ length-replicate {A = ℕ} size 0
 
 module _ (lim : Limits) (bytes : List ℕ) (size : ℕ) (rows : List ℕ) where
-  -- refusal, number of terms, rows and position
-  abbrev Decoded : ℕ → ℕ → ℕ → Type 0
-  Decoded refusal terms at =
+  -- refusal, number of terms and rows
+  abbrev Decoded : ℕ → ℕ → Type 0
+  Decoded refusal terms =
       (refusal ≡ decodedRefusal (parseBook lim bytes)) ×
       ((terms ≡ length (decodedBook (parseBook lim bytes))) ×
-      ((refusal ≡ 0 → rows ≡ bookRows size (decodedBook (parseBook lim bytes))) ×
-      (at ≡ readTo lim bytes)))
+      (refusal ≡ 0 → rows ≡ bookRows size (decodedBook (parseBook lim bytes))))
 
-  refused-answer : (k at : ℕ) → parseBook lim bytes ≡ unparsed k → at ≡ readTo lim bytes → Decoded k 0 at
+  refused-answer : (k : ℕ) → parseBook lim bytes ≡ unparsed k → Decoded k 0
   unfolding decodedRefusal decodedBook
-  refused-answer k at e q = (rw e, (rw e, ((λ z. absurd (rw (e, z) at (book-positive lim bytes))), q)))
+  refused-answer k e = (rw e, (rw e, λ z. absurd (rw (e, z) at (book-positive lim bytes))))
 
-  book-answer : (n at : ℕ) (b : Book) → parseBook lim bytes ≡ parsed b [] → BookIn n size rows b → at ≡ readTo lim bytes → Decoded 0 n at
+  book-answer : (n : ℕ) (b : Book) → parseBook lim bytes ≡ parsed b [] → BookIn n size rows b → Decoded 0 n
   unfolding decodedRefusal decodedBook
-  book-answer n at b e h q = (rw e, (rw e (sym (h .as-many)), ((λ z. rw e (h .written)), q)))
+  book-answer n b e h = (rw e, (rw e (sym (h .as-many)), λ z. rw e (h .written)))
 
   -- refused at the count, at a term, and at what is left; and a whole book
-  pub refused-count : (k : ℕ) → parseBelow (lim .maxTerms + 1) 4 bytes ≡ unparsed k → Decoded k 0 0
-  refused-count k e = refused-answer k 0 (count-refused lim bytes k e) (read-none lim bytes k e)
+  pub refused-count : (k : ℕ) → parseBelow (lim .maxTerms + 1) 4 bytes ≡ unparsed k → Decoded k 0
+  refused-count k e = refused-answer k (count-refused lim bytes k e)
 
   module _ (n next : ℕ) (e : parseBelow (lim .maxTerms + 1) 4 bytes ≡ parsed n (drop next bytes)) {words : ℕ} (long : words ≡ size) where
     -- what the reader of terms promises
-    abbrev Answered : Terms → Type 0
-    Answered = TermsOf bytes (parseTerms n [] (drop next bytes)) (BookIn n words rows) (unreadTerms n [] (drop next bytes))
+    abbrev Answered : Advance → Type 0
+    Answered = AdvanceOf bytes (parseTerms n [] (drop next bytes)) (BookIn n words rows)
 
-    pub refused-terms : (a : Terms) (k at : ℕ) → Answered a → a ≡ Refused k at → Decoded k 0 at
-    refused-terms a k at s q =
-        let d : Answered (Refused k at) = subst Answered q s in
-        refused-answer k at (terms-refused lim bytes n (drop next bytes) e k (d .0)) (read-up-to lim bytes n (drop next bytes) e at (d .1) (d .2))
+    pub refused-terms : (a : Advance) (k : ℕ) → Answered a → a ≡ Refused k → Decoded k 0
+    refused-terms a k s q = refused-answer k (terms-refused lim bytes n (drop next bytes) e k (subst Answered q s))
 
-    pub refused-end : (a : Terms) (end : ℕ) → Answered a → a ≡ Read end → end < length bytes → Decoded 3 0 end
+    pub refused-end : (a : Advance) (end : ℕ) → Answered a → a ≡ Next end → end < length bytes → Decoded 3 0
     refused-end a end s q l =
-        let d : Answered (Read end) = subst Answered q s in
-        refused-answer 3 end (end-refused lim bytes n (drop next bytes) e (d .0 .0) end (d .0 .1) l)
-        (read-up-to lim bytes n (drop next bytes) e end (d .1) (d .0 .2))
+        let d : Answered (Next end) = subst Answered q s in
+        refused-answer 3 (end-refused lim bytes n (drop next bytes) e (d .0) end (d .1) l)
 
-    pub whole-book : (a : Terms) (end : ℕ) → Answered a → a ≡ Read end → length bytes ≤ end → Decoded 0 n end
+    pub whole-book : (a : Advance) (end : ℕ) → Answered a → a ≡ Next end → length bytes ≤ end → Decoded 0 n
     whole-book a end s q l =
-        let d : Answered (Read end) = subst Answered q s in
-        book-answer n end (d .0 .0) (book-whole lim bytes n (drop next bytes) e (d .0 .0) end (d .0 .1) l)
-        (subst (λ k. BookIn n k rows (d .0 .0)) long (d .0 .3)) (read-up-to lim bytes n (drop next bytes) e end (d .1) (d .0 .2))
+        let d : Answered (Next end) = subst Answered q s in
+        book-answer n (d .0) (book-whole lim bytes n (drop next bytes) e (d .0) end (d .1) l) (subst (λ k. BookIn n k rows (d .0)) long (d .3))

@@ -3,16 +3,12 @@
 -- proofs/decode/Unread.antt.
 use mathlib.Core.Path.{_≡_}
 use mathlib.Core.List.{List, [], _∷_, _++_}
-use Prim.Native.Nat.{ℕ, zero, suc, _-_, _≤_}
+use Prim.Native.Nat.{ℕ, zero, suc, _-_}
 use lib.ListN.{length, drop}
 use lib.Dec.{leb}
 use Rattle.model.specs.Limits.{Limits}
 use Rattle.model.specs.Term.{Book}
 use Rattle.model.specs.BookBytes.{Parsed, parsed, unparsed, andThen, need, parseNumber, parseNode, parseBook}
-use Rattle.book.specs.declared.parse.Advance.the-variants.{Next}
-use Rattle.book.specs.declared.decode.Terms.{Terms}
-use Rattle.book.specs.declared.decode.Terms.the-variants.{Read, Refused}
-use Rattle.book.specs.parse.Parts.{AdvanceOf}
 
 -- What follows a part that was read; where it is refused, the bytes from its first one on.
 unfoldable pub orLeft : {A : Type 0} → Parsed A → List ℕ → (A → List ℕ → List ℕ) → List ℕ
@@ -41,9 +37,3 @@ UnreadIsLeft = (lim : Limits) (bytes : List ℕ) → unreadBook lim bytes ≡ dr
 
 abbrev pub AcceptedIsRead : Type 0
 AcceptedIsRead = (lim : Limits) (bytes : List ℕ) (b : Book) (rest : List ℕ) → parseBook lim bytes ≡ parsed b rest → readTo lim bytes ≡ length bytes
-
--- What the reader of terms answers, case by case, where p is the outcome and `left` the bytes that are not read: they begin at the
--- position that it names.
-abbrev pub TermsOf : List ℕ → Parsed Book → (Book → Type 0) → List ℕ → Terms → Type 0
-TermsOf bytes p P left (Read next) = AdvanceOf bytes p P (Next next) × (left ≡ drop next bytes)
-TermsOf bytes p P left (Refused k at) = (p ≡ unparsed k) × (left ≡ drop at bytes) × (at ≤ length bytes)

@@ -45,8 +45,8 @@ read-terms-requires c κs =
     let known = c .before .before in
     (count-read known .1, omega (arith, count-small known, long known), rw (long known) (known .before .before .before .before .before .before .pre .1))
 
-enum-known-refusal : tie.Need-enum-known-refusal
-enum-known-refusal c = search needs
+enum-known-n-2 : tie.Need-enum-known-n-2
+enum-known-n-2 c = search needs
 
 enum-known-end : tie.Need-enum-known-end
 enum-known-end c = search needs
@@ -62,8 +62,7 @@ returns-2 : tie.Need-returns-2
 returns-2 c =
     let read = c .before .before .before .before .before in
     let known = read .before .before .before in
-    refused-terms _ _ _ _ _ (known .value .given .0 .1 .0) (count-read known .0) (long known) (read .read-terms .result) _ _
-    (read .read-terms .ensures) (c .before .refusal .given .1)
+    refused-terms _ _ _ _ _ (known .value .given .0 .1 .0) (count-read known .0) (long known) (read .read-terms .result) _ (read .read-terms .ensures) (c .before .n2 .given .1)
 
 same-length-2 : tie.Need-same-length-2
 same-length-2 c = search needs
@@ -93,7 +92,7 @@ decode-spec =
     enum-known-n
     enum-known-value
     read-terms-requires
-    enum-known-refusal
+    enum-known-n-2
     enum-known-end
     returns
     same-length returns-2

@@ -25,8 +25,8 @@ read-term-requires c κs = search needs
 enum-known-after : tie.Need-enum-known-after Inv-loop μ-loop
 enum-known-after c = search needs
 
-enum-known-refusal : tie.Need-enum-known-refusal Inv-loop μ-loop
-enum-known-refusal c = search needs
+enum-known-n : tie.Need-enum-known-n Inv-loop μ-loop
+enum-known-n c = search needs
 
 same-length : tie.Need-same-length Inv-loop μ-loop
 same-length c = search needs
@@ -36,7 +36,7 @@ returns c =
     let read = c .before .before .before .before .before in
     let head = read .before .before .before .before in
     read-refused _ _ _ _ _ _ _ _ (head .loop .inv .2) (read .before .before .before .loop-test .taken) _ _ (read .read-term .result) _
-    (read .read-term .ensures) (c .before .refusal .given .1)
+    (read .read-term .ensures) (c .before .n .given .1)
 
 add-t : tie.Need-add-t Inv-loop μ-loop
 add-t c = search needs
@@ -69,7 +69,7 @@ read-terms-spec =
     loop-holds
     read-term-requires
     enum-known-after
-    enum-known-refusal
+    enum-known-n
     same-length returns
     add-t
     loop-less

@@ -15,7 +15,7 @@ rows-decoded c =
     record {
       none-refused = sym (d .ensures .0) ∙ c .if1 .left;
       as-many = d .ensures .1 .0;
-      written = d .ensures .1 .1 .0 (c .if1 .left);
+      written = d .ensures .1 .1 (c .if1 .left);
     }
 
 returns : tie.Need-returns

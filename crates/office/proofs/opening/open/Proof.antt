@@ -87,7 +87,7 @@ returns-4 c =
     (sym (read .ensures .0) ∙ accepted .if3 .left) in
     let book = decodedBook (parseBook office (now (s .args .book))) in
     let counted : read .result .terms ≡ length book = read .ensures .1 .0 in
-    let rowed : read .last .1 .1 .0 ≡ bookRows (termWords * office .maxTerms) book = read .ensures .1 .1 .0 (accepted .if3 .left) in
+    let rowed : read .last .1 .1 .0 ≡ bookRows (termWords * office .maxTerms) book = read .ensures .1 .1 (accepted .if3 .left) in
     let words = ap₂ (λ terms rows. over (concatMap (toBytes wordSize) (openedWords office (s .args .capacity) terms rows)) (now (s .args .area)))
     counted rowed in
     (sym (ap (λ o. o .refusal) e), opened .opened .ensures ∙ words ∙ sym (ap (λ o. o .area) e))

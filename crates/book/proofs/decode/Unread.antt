@@ -1,11 +1,11 @@
--- What is not read of a book stands from the position on up to which it is read, and a book that is accepted is read to its end. Assumes
--- nothing.
-use mathlib.Core.Path.{_≡_, refl, sym, _∙_}
+-- What is not read of a book stands from the position on up to which it is read; a book that is accepted is read to its end; and of one that is
+-- refused, the part at that position is refused. Assumes nothing.
+use mathlib.Core.Path.{_≡_, refl, sym, ap, _∙_}
 use mathlib.Core.List.{List, [], _∷_, _++_}
-use Prim.Native.Nat.{ℕ, zero, suc, _-_, _≤_}
+use Prim.Native.Nat.{ℕ, zero, suc, _+_, _-_, _<_, _≤_}
 use native.Mathlib.Nat.{sub-zero}
 use native.Mathlib.Omega.{arith}
-use lib.ListN.{length, drop, length-drop}
+use lib.ListN.{length, drop, length-append, length-drop}
 use lib.Dec.{ltb, leb}
 use Rattle.leb128.specs.Number.{maxGroups, maxNumber, Read, number, cut, invalid, read}
 use Rattle.leb128.specs.Answer.{placed, readAt}
@@ -15,10 +15,11 @@ use Rattle.model.specs.Term.{Node, Book}
 use Rattle.model.specs.BookBytes.{Parsed, parsed, unparsed, andThen, need, parseNumber, arityFits, parseArguments, parseApp, parseNode, parseTerms, parseBook}
 use Rattle.theory.proofs.Book.Gives.{Gives, need-gives, andThen-gives}
 use Rattle.book.specs.parse.Below.{parseBelow}
-use Rattle.book.specs.decode.Unread.{orLeft, unreadTerms, unreadBook, readTo, UnreadIsLeft, AcceptedIsRead}
+use Rattle.book.specs.decode.Unread.{orLeft, unreadTerms, numberOfTerms, unreadBook, readTo, UnreadIsLeft, AcceptedIsRead}
+use Rattle.book.specs.decode.Unread.{RefusedAt, number-refused, term-refused, bytes-left, RefusedThere}
 use Rattle.book.proofs.reader.Below.{numberOf, number-read}
 use Rattle.book.proofs.decode.Parsing.{then-then}
-use Rattle.book.proofs.decode.Whole.{book-parts, book-unread}
+use Rattle.book.proofs.decode.Whole.{book-parts, count-below, book-unread, read-none}
 
 -- ---- WHAT IS NOT READ is left of the bytes.
 
@@ -130,3 +131,90 @@ nothing-left lim bytes b rest e = book-unread lim bytes ∙ go (parseBelow _ 4 b
 pub accepted-is-read : AcceptedIsRead
 unfolding readTo
 accepted-is-read lim bytes b rest e = rw (nothing-left lim bytes b rest e, sub-zero)
+
+-- ---- A BOOK THAT IS REFUSED.
+
+same-refusal : {A : Type 0} {j k : ℕ} → _≡_ {A = Parsed A} (unparsed j) (unparsed k) → j ≡ k
+same-refusal e = cc
+
+-- of k terms that are refused with r: those before the one that is refused, and what is left behind them
+record Stopped (k : ℕ) (before : Book) (bytes : List ℕ) (r : ℕ) (left : List ℕ) : Type 0 where
+  count : ℕ
+  fewer : count < k
+  book : Book
+  as-many : length book ≡ length before + count
+  reads : parseTerms count before bytes ≡ parsed book left
+  refuses : andThen (parseNumber left) (parseNode book) ≡ unparsed r
+
+terms-stopped : (k : ℕ) (before : Book) (bytes : List ℕ) (r : ℕ) → parseTerms k before bytes ≡ unparsed r
+    → Stopped k before bytes r (unreadTerms k before bytes)
+unfolding parseTerms unreadTerms andThen orLeft
+terms-stopped zero before bytes r e = absurd (not-parsed (sym e))
+terms-stopped (suc k) before bytes r e =
+    go (λ before′ bytes′. terms-stopped k before′ bytes′ r) (andThen (parseNumber bytes) (parseNode before)) refl
+    (then-then (parseNumber bytes) (parseNode before) (λ n left. parseTerms k (before ++ n ∷ []) left) ∙ e)
+  where
+    go : ((before′ : Book) (bytes′ : List ℕ) → parseTerms k before′ bytes′ ≡ unparsed r
+        → Stopped k before′ bytes′ r (unreadTerms k before′ bytes′))
+        → (p : Parsed Node) → andThen (parseNumber bytes) (parseNode before) ≡ p
+        → andThen p (λ n left. parseTerms k (before ++ n ∷ []) left) ≡ unparsed r
+        → Stopped (suc k) before bytes r (orLeft p bytes (λ n left. unreadTerms k (before ++ n ∷ []) left))
+    go more (parsed n left) q h =
+        let s = more (before ++ n ∷ []) left h in
+        record {
+          count = suc (s .count);
+          fewer = omega (arith, s .fewer);
+          book = s .book;
+          as-many = s .as-many ∙ rw length-append (omega arith);
+          reads =
+              sym (then-then (parseNumber bytes) (parseNode before) (λ x rest. parseTerms (s .count) (before ++ x ∷ []) rest)) ∙ rw q (s .reads);
+          refuses = s .refuses;
+        }
+    go more (unparsed j) q h =
+        record { count = 0; fewer = omega arith; book = before; as-many = omega arith; reads = refl; refuses = q ∙ ap unparsed (same-refusal h) }
+
+module _ (lim : Limits) (bytes : List ℕ) where
+  -- what is not read of the terms; and where that is something, the position is before the end
+  unread-terms : (n : ℕ) (rest : List ℕ) → numberOfTerms lim bytes ≡ parsed n rest → unreadTerms n [] rest ≡ drop (readTo lim bytes) bytes
+  unfolding unreadBook orLeft
+  unread-terms n rest q =
+      let u : unreadBook lim bytes ≡ unreadTerms n [] rest = rw q in
+      sym u ∙ unread-is-left lim bytes
+
+  some-unread : (x : ℕ) (xs : List ℕ) → x ∷ xs ≡ drop (readTo lim bytes) bytes → readTo lim bytes < length bytes
+  some-unread x xs e =
+      let l : length (x ∷ xs) ≡ length (drop (readTo lim bytes) bytes) = ap length e in
+      let m : suc (length xs) ≡ length bytes - readTo lim bytes = rw length-drop at l in
+      omega (arith, m)
+
+  module _ (k : ℕ) where
+    module _ (n : ℕ) (rest : List ℕ) (q : numberOfTerms lim bytes ≡ parsed n rest) where
+      -- at what is left behind the terms, at one of them, and at their number
+      behind-terms : (b : Book) (end : List ℕ) → parseTerms n [] rest ≡ parsed b end → need (isEmpty end) 3 (parsed b []) ≡ unparsed k
+          → RefusedAt lim bytes k
+      unfolding need isEmpty
+      behind-terms b [] t h = absurd (not-parsed (sym h))
+      behind-terms b (x ∷ xs) t h =
+          let left : x ∷ xs ≡ drop (readTo lim bytes) bytes = sym (terms-passed n [] rest b (x ∷ xs) t) ∙ unread-terms n rest q in
+          bytes-left n rest b q (t ∙ ap (parsed b) left) (some-unread x xs left) (sym (same-refusal h))
+
+      in-terms : (p : Parsed Book) → parseTerms n [] rest ≡ p → andThen p (λ b end. need (isEmpty end) 3 (parsed b [])) ≡ unparsed k
+          → RefusedAt lim bytes k
+      unfolding andThen
+      in-terms (parsed b end) t h = behind-terms b end t h
+      in-terms (unparsed j) t h =
+          let s = terms-stopped n [] rest k (t ∙ ap unparsed (same-refusal h)) in
+          let many : length (s .book) ≡ s .count = omega (arith, s .as-many) in
+          let left = unread-terms n rest q in
+          term-refused n rest (s .book) q (omega (arith, many, s .fewer)) (rw (many, ← left) (s .reads)) (rw (← left) (s .refuses))
+
+    in-book : (p : Parsed ℕ) → numberOfTerms lim bytes ≡ p
+        → andThen p (λ n rest. andThen (parseTerms n [] rest) (λ b end. need (isEmpty end) 3 (parsed b []))) ≡ unparsed k → RefusedAt lim bytes k
+    unfolding andThen
+    in-book (parsed n rest) q h = in-terms n rest q (parseTerms n [] rest) refl h
+    in-book (unparsed j) q h =
+        let e : numberOfTerms lim bytes ≡ unparsed k = q ∙ ap unparsed (same-refusal h) in
+        number-refused e (sym (read-none lim bytes k (sym (count-below lim bytes) ∙ e)))
+
+pub refused-there : RefusedThere
+refused-there lim bytes k e = in-book lim bytes k (numberOfTerms lim bytes) refl (rw (count-below lim bytes) (sym (book-parts lim bytes) ∙ e))

@@ -16,7 +16,7 @@ use Rattle.theory.proofs.Book.Opening.{book-positive}
 use Rattle.book.specs.declared.parse.Advance.{Advance}
 use Rattle.book.specs.declared.parse.Advance.the-variants.{Next, Refused}
 use Rattle.book.specs.decode.Rows.{bookRows, decodedRefusal, decodedBook}
-use Rattle.book.specs.decode.Unread.{orLeft, unreadTerms, unreadBook, readTo}
+use Rattle.book.specs.decode.Unread.{orLeft, unreadTerms, numberOfTerms, unreadBook, readTo}
 use Rattle.book.specs.parse.Below.{parseBelow}
 use Rattle.book.specs.parse.Parts.{AdvanceOf, BookIn}
 use Rattle.book.proofs.decode.Parsing.{then-same, up-to-then}
@@ -65,9 +65,12 @@ position : (bytes : List ℕ) (at : ℕ) (left : List ℕ) → left ≡ drop at 
 position bytes at left e w = rw (e, length-drop) (omega arith)
 
 module _ (lim : Limits) (bytes : List ℕ) where
+  pub count-below : numberOfTerms lim bytes ≡ parseBelow (lim .maxTerms + 1) 4 bytes
+  count-below = rw (up-to-then (lim .maxTerms) 4 bytes parsed, then-same, add-one)
+
   pub book-unread : unreadBook lim bytes ≡ orLeft (parseBelow (lim .maxTerms + 1) 4 bytes) bytes (λ n rest. unreadTerms n [] rest)
   unfolding unreadBook
-  book-unread = rw (up-to-then (lim .maxTerms) 4 bytes parsed, then-same, add-one)
+  book-unread = rw count-below
 
   -- nothing where the count is refused
   pub read-none : (k : ℕ) → parseBelow (lim .maxTerms + 1) 4 bytes ≡ unparsed k → 0 ≡ readTo lim bytes

@@ -1,14 +1,16 @@
 -- How far a book's bytes are read: up to the part that is refused, and to the end where none is (document 01, "Bytes"). The parts are
--- the number of terms, each term, and what is left behind the last one. Definitions, and statements of what is proved in
--- proofs/decode/Unread.antt.
-use mathlib.Core.Path.{_≡_}
-use mathlib.Core.List.{List, [], _∷_, _++_}
-use Prim.Native.Nat.{ℕ, zero, suc, _-_}
+-- the number of terms, each term, and what is left behind the last one. Definitions, statements of what is proved in
+-- proofs/decode/Unread.antt, and samples by computation.
+use mathlib.Core.Path.{_≡_, refl}
+use mathlib.Core.List.{List, [], _∷_, _++_, map}
+use Prim.Native.Nat.{ℕ, zero, suc, _-_, _<_}
 use lib.ListN.{length, drop}
 use lib.Dec.{leb}
-use Rattle.model.specs.Limits.{Limits}
+use Rattle.model.specs.Limits.{Limits, office}
 use Rattle.model.specs.Term.{Book}
-use Rattle.model.specs.BookBytes.{Parsed, parsed, unparsed, andThen, need, parseNumber, parseNode, parseBook}
+use Rattle.model.specs.BookBytes.{Parsed, parsed, unparsed, andThen, need, parseNumber, parseNode, parseTerms, parseBook}
+use Rattle.model.specs.Computing.{computation}
+use Rattle.model.specs.Samples.{badBooks}
 
 -- What follows a part that was read; where it is refused, the bytes from its first one on.
 unfoldable pub orLeft : {A : Type 0} → Parsed A → List ℕ → (A → List ℕ → List ℕ) → List ℕ
@@ -22,10 +24,13 @@ unreadTerms zero before bytes = bytes
 unreadTerms (suc k) before bytes =
     orLeft (andThen (parseNumber bytes) (parseNode before)) bytes (λ n rest. unreadTerms k (before ++ n ∷ []) rest)
 
--- The same of a whole book: all where the number of terms is refused.
+-- The number of terms, at the front of a book: refusals 1, 2 and 4.
+abbrev pub numberOfTerms : Limits → List ℕ → Parsed ℕ
+numberOfTerms lim bytes = andThen (parseNumber bytes) (λ n rest. need (leb n (lim .maxTerms)) 4 (parsed n rest))
+
+-- The bytes that are not read of a whole book: all where the number of terms is refused.
 unfoldable pub unreadBook : Limits → List ℕ → List ℕ
-unreadBook lim bytes =
-    orLeft (andThen (parseNumber bytes) (λ n rest. need (leb n (lim .maxTerms)) 4 (parsed n rest))) bytes (λ n rest. unreadTerms n [] rest)
+unreadBook lim bytes = orLeft (numberOfTerms lim bytes) bytes (λ n rest. unreadTerms n [] rest)
 
 -- How far a book is read: the position of the part that is refused, and the end where none is.
 unfoldable pub readTo : Limits → List ℕ → ℕ
@@ -37,3 +42,21 @@ UnreadIsLeft = (lim : Limits) (bytes : List ℕ) → unreadBook lim bytes ≡ dr
 
 abbrev pub AcceptedIsRead : Type 0
 AcceptedIsRead = (lim : Limits) (bytes : List ℕ) (b : Book) (rest : List ℕ) → parseBook lim bytes ≡ parsed b rest → readTo lim bytes ≡ length bytes
+
+-- And the part at that position is the one that is refused, with k: the number of terms, at the front; a term, behind those before it;
+-- or what is left behind the last term.
+pub data RefusedAt (lim : Limits) (bytes : List ℕ) (k : ℕ) : Type 0 where
+  number-refused : numberOfTerms lim bytes ≡ unparsed k → readTo lim bytes ≡ 0 → RefusedAt lim bytes k
+  term-refused : (n : ℕ) (rest : List ℕ) (before : Book) → numberOfTerms lim bytes ≡ parsed n rest → length before < n
+      → parseTerms (length before) [] rest ≡ parsed before (drop (readTo lim bytes) bytes)
+      → andThen (parseNumber (drop (readTo lim bytes) bytes)) (parseNode before) ≡ unparsed k → RefusedAt lim bytes k
+  bytes-left : (n : ℕ) (rest : List ℕ) (b : Book) → numberOfTerms lim bytes ≡ parsed n rest
+      → parseTerms n [] rest ≡ parsed b (drop (readTo lim bytes) bytes) → readTo lim bytes < length bytes → k ≡ 3 → RefusedAt lim bytes k
+
+abbrev pub RefusedThere : Type 0
+RefusedThere = (lim : Limits) (bytes : List ℕ) (k : ℕ) → parseBook lim bytes ≡ unparsed k → RefusedAt lim bytes k
+
+-- SAMPLES. How far document 01's examples of refusals 1 to 6 are read, and the book of one variable, which is accepted.
+pub read-to-samples : map (readTo office) (badBooks ++ (1 ∷ 0 ∷ []) ∷ []) ≡ 1 ∷ 0 ∷ 1 ∷ 0 ∷ 1 ∷ 3 ∷ 2 ∷ []
+unfolding computation readTo unreadBook unreadTerms orLeft
+read-to-samples = refl

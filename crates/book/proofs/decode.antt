@@ -5,5 +5,4 @@ pub mod Outcome
 pub mod Parsing
 pub mod Term
 pub mod TermRows
-pub mod Unread
 pub mod Whole

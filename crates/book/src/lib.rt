@@ -3,7 +3,8 @@
 //
 // parse   a number, and the parts of a term, at a position of the bytes
 // reader  a term, by a reader that moves through its parts
-// decode  all terms, a book's bytes into term rows, and how far they are read
+// decode  all terms, and a book's bytes into term rows
+// unread  how far a book's bytes are read
 // write   a term: its length, and writing it
 // encode  term rows into a book's bytes
 
@@ -11,4 +12,5 @@ pub mod decode;
 pub mod encode;
 mod parse;
 pub mod reader;
+pub mod unread;
 mod write;

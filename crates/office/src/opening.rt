@@ -3,7 +3,7 @@
 ghost use mathlib.Core.Path.{_≡_};
 ghost use Rattle.model.specs.Limits.{office};
 ghost use Rattle.model.specs.Call.{callOpen};
-ghost use Rattle.book.specs.decode.Unread.{readTo};
+ghost use Rattle.book.specs.unread.Unread.{readTo};
 ghost use Rattle.office.specs.opening.Offered.{neededLength};
 
 // The length in bytes that an area of this capacity needs, 0 for a capacity out of range.
@@ -48,5 +48,5 @@ pub fn read_to(book: &[u8]) -> usize
     ensures { λ r. ⌜ r ≡ readTo office (now (book .entry)) ⌝ }
 {
     let mut rows = [0u32; layout::limits::ROWS];
-    book::decode::read_to(layout::limits::OFFICE, book, &mut rows)
+    book::unread::read_to(layout::limits::OFFICE, book, &mut rows)
 }

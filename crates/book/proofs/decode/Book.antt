@@ -15,7 +15,7 @@ use Rattle.book.specs.declared.parse.Advance.{Advance}
 use Rattle.book.specs.declared.parse.Advance.the-variants.{Next, Refused}
 use Rattle.layout.proofs.limits.Counts.{Counted, counted-none, counted-more, length-noted}
 use Rattle.book.specs.decode.Rows.{bookRows}
-use Rattle.book.specs.decode.Unread.{orLeft, unreadTerms}
+use Rattle.book.specs.unread.Unread.{orLeft, unreadTerms}
 use Rattle.book.specs.parse.Parts.{parseTerm, AdvanceOf, TermIn, BookIn}
 use Rattle.book.proofs.decode.Counts.{term-parsed, term-unread}
 use Rattle.book.proofs.decode.TermRows.{rows-none, rows-more, length-more}

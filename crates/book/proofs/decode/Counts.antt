@@ -15,7 +15,7 @@ use Rattle.layout.specs.limits.Counts.{fitsEntry}
 use Rattle.layout.proofs.limits.Counts.{Counted}
 use Rattle.book.specs.parse.Below.{parseBelow}
 use Rattle.book.specs.parse.Parts.{parseCount, nodeFrom, parseNodeOf, parseTerm}
-use Rattle.book.specs.decode.Unread.{orLeft, unreadTerms}
+use Rattle.book.specs.unread.Unread.{orLeft, unreadTerms}
 use Rattle.book.proofs.decode.Parsing.{then-then, then-alike, up-to-then}
 
 -- what follows a number that is needed

@@ -16,7 +16,7 @@ use Rattle.theory.proofs.Book.Opening.{book-positive}
 use Rattle.book.specs.declared.parse.Advance.{Advance}
 use Rattle.book.specs.declared.parse.Advance.the-variants.{Next, Refused}
 use Rattle.book.specs.decode.Rows.{bookRows, decodedRefusal, decodedBook}
-use Rattle.book.specs.decode.Unread.{orLeft, unreadTerms, numberOfTerms, unreadBook, readTo}
+use Rattle.book.specs.unread.Unread.{orLeft, unreadTerms, numberOfTerms, unreadBook, readTo}
 use Rattle.book.specs.parse.Below.{parseBelow}
 use Rattle.book.specs.parse.Parts.{AdvanceOf, BookIn}
 use Rattle.book.proofs.decode.Parsing.{then-same, up-to-then}

@@ -14,8 +14,8 @@ use Rattle.leb128.specs.declared.Decoded.the-variants.{Number, Cut, Invalid}
 use Rattle.model.specs.Limits.{office, maxSession, sessionCapacity}
 use Rattle.model.specs.Call.{Outcome, callOpen}
 use Rattle.theory.proofs.Book.Opening.{opens}
-use Rattle.book.specs.decode.Unread.{readTo}
-use Rattle.book.proofs.decode.Unread.{accepted-is-read}
+use Rattle.book.specs.unread.Unread.{readTo}
+use Rattle.book.proofs.unread.Unread.{accepted-is-read}
 use Rattle.session.specs.declared.steps.Begun.the-variants.{Refused, At}
 use Rattle.session.specs.steps.Effects.{notBegun, begun, openBook, start}
 use Rattle.session.specs.fault.Fault.{bookFault, openingFault, AcceptedFault}

@@ -10,7 +10,7 @@ use Rattle.leb128.specs.Answer.{readAt}
 use Rattle.leb128.specs.declared.Decoded.{Decoded}
 use Rattle.leb128.specs.declared.Decoded.the-variants.{Number}
 use Rattle.model.specs.Limits.{office, maxSession}
-use Rattle.book.specs.decode.Unread.{readTo}
+use Rattle.book.specs.unread.Unread.{readTo}
 use Rattle.session.specs.fault.Fault.{bookFault, openingFault}
 
 module _ (input : List ℕ) (at size : ℕ) where

@@ -12,7 +12,7 @@ use Rattle.leb128.specs.declared.Decoded.{Decoded}
 use Rattle.leb128.specs.declared.Decoded.the-variants.{Number, Cut, Invalid}
 use Rattle.model.specs.Limits.{office, maxSession}
 use Rattle.model.specs.Computing.{computation}
-use Rattle.book.specs.decode.Unread.{orLeft, unreadTerms, unreadBook, readTo}
+use Rattle.book.specs.unread.Unread.{orLeft, unreadTerms, unreadBook, readTo}
 use Rattle.session.specs.declared.steps.Begun.the-variants.{At}
 use Rattle.session.specs.steps.Effects.{start}
 

@@ -1,4 +1,4 @@
--- `decode::terms_read_to` meets its contract: the loop's invariant says what holds after `t` terms, and the measure is the
+-- `unread::terms_read_to` meets its contract: the loop's invariant says what holds after `t` terms, and the measure is the
 -- terms that are left. Assumes nothing.
 use mathlib.Core.Path.{_≡_, refl}
 use Prim.Native.Nat.{_*_, _-_, _≤_}
@@ -6,8 +6,8 @@ use borrow.Author.Needs.{needs}
 use lib.ListN.{length}
 use Rattle.model.specs.Area.{termWords}
 use Rattle.book.proofs.decode.Book.{Read, read-none, read-more, unread-refused, unread-all}
-use Rattle.book.proofs.decode.terms_read_to.Statement.{statement}
-use Rattle.book.proofs.decode.terms_read_to.Tie as tie
+use Rattle.book.proofs.unread.terms_read_to.Statement.{statement}
+use Rattle.book.proofs.unread.terms_read_to.Tie as tie
 
 abbrev Inv-loop : tie.InvT-loop
 Inv-loop bytes at count rows₀ counts₀ next₀ t₀ rows counts next t =

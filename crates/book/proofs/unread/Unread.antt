@@ -15,8 +15,8 @@ use Rattle.model.specs.Term.{Node, Book}
 use Rattle.model.specs.BookBytes.{Parsed, parsed, unparsed, andThen, need, parseNumber, arityFits, parseArguments, parseApp, parseNode, parseTerms, parseBook}
 use Rattle.theory.proofs.Book.Gives.{Gives, need-gives, andThen-gives}
 use Rattle.book.specs.parse.Below.{parseBelow}
-use Rattle.book.specs.decode.Unread.{orLeft, unreadTerms, numberOfTerms, unreadBook, readTo, UnreadIsLeft, AcceptedIsRead}
-use Rattle.book.specs.decode.Unread.{RefusedAt, number-refused, term-refused, bytes-left, RefusedThere}
+use Rattle.book.specs.unread.Unread.{orLeft, unreadTerms, numberOfTerms, unreadBook, readTo, UnreadIsLeft, AcceptedIsRead}
+use Rattle.book.specs.unread.Unread.{RefusedAt, number-refused, term-refused, bytes-left, RefusedThere}
 use Rattle.book.proofs.reader.Below.{numberOf, number-read}
 use Rattle.book.proofs.decode.Parsing.{then-then}
 use Rattle.book.proofs.decode.Whole.{book-parts, count-below, book-unread, read-none}

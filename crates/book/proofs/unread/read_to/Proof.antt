@@ -1,4 +1,4 @@
--- `decode::read_to` meets its contract: nothing is read where the number of terms is refused, and else up to where the terms are read.
+-- `unread::read_to` meets its contract: nothing is read where the number of terms is refused, and else up to where the terms are read.
 -- Assumes nothing.
 use mathlib.Core.Path.{_≡_}
 use Prim.Native.Nat.{_+_, _*_, _≤_}
@@ -10,8 +10,8 @@ use Rattle.model.specs.Area.{termWords}
 use Rattle.book.specs.declared.parse.Part.the-variants.{Value}
 use Rattle.book.proofs.reader.Below.{Says, part-says, below-small}
 use Rattle.book.proofs.decode.Whole.{zeros-length, read-none, read-up-to}
-use Rattle.book.proofs.decode.read_to.Statement.{statement}
-use Rattle.book.proofs.decode.read_to.Tie as tie
+use Rattle.book.proofs.unread.read_to.Statement.{statement}
+use Rattle.book.proofs.unread.read_to.Tie as tie
 
 -- the number of terms that was read, and its limit
 count-read : (c : tie.After-value) →

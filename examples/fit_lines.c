@@ -4,7 +4,7 @@
    library keeps the narrowest pattern that covers both, the fit line. This program opens a book, adds a line for each pair, and
    prints the lines from the report; then it fixes the choices, one after the other, and prints them again.
 
-   docs/C-API.md says how to build it and what each call promises, docs/SPEC.md what the numbers mean. */
+   docs/C-API.md says how to build it and what each call promises, include/fit.h what the numbers mean. */
 #include "fit.h"
 
 #include <stdio.h>

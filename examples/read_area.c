@@ -6,7 +6,7 @@
    entry stands for all entries with the same two values. An entry gives terms as they were given; the report gives names, the lowest term that
    has the value.
 
-   There is no malloc here. docs/C-API.md says how to build it, docs/SPEC.md what the numbers mean. */
+   There is no malloc here. docs/C-API.md says how to build it, include/fit.h what the numbers mean. */
 #include "fit_area.h"
 
 #include <stdio.h>

@@ -37,8 +37,8 @@ extern "C" {
 /* What a call returns. Of the tests of a call the first that fails decides; each call below lists its own in their order. */
 enum {
     FIT_OK = 0,              /* accepted */
-    FIT_CUT = 1,             /* the bytes of a book end within a number, or before one */
-    FIT_BAD_NUMBER = 2,      /* a number of a book is not in shortest form, has more than three bytes, or is above 65,535 */
+    FIT_CUT = 1,             /* the bytes of a book end before a number, or after one or two bytes of an unfinished one */
+    FIT_BAD_NUMBER = 2,      /* a number of a book is not in shortest form, has 0x80 set in its third byte, or is above 65,535 */
     FIT_LEFT_OVER = 3,       /* bytes after the last term of a book */
     FIT_OUT_OF_RANGE = 4,    /* a number of terms, a symbol, a count of arguments or a capacity is out of range */
     FIT_NOT_LOWER = 5,       /* an argument is its own term or a higher one */
@@ -97,17 +97,21 @@ static inline const char *fit_refusal(uint32_t refusal)
 #define FIT_MAX_ARGUMENTS 8
 #define FIT_MAX_SYMBOL 4095
 
-/* Bytes that always suffice. For an area of a capacity from 1 to FIT_MAX_CAPACITY, exactly what fit_area_length gives; for any book
-   (theory Lengths.antt: office-book-read, office-book); for any report (room-for-report), and for one of an area of this capacity
-   (report-written). */
+/* The bytes of an area of a capacity from 1 to FIT_MAX_CAPACITY, as a constant: what fit_area_length gives. */
 #define FIT_AREA_BYTES(capacity) (46096 + 56 * (size_t)(capacity))
+
+/* Bytes that always suffice, each by a theorem of the repository (theory Lengths.antt). For any book: office-book-read, office-book. */
 #define FIT_BOOK_BYTES 19458
+
+/* For any report: room-for-report. */
 #define FIT_REPORT_BYTES 47620
+
+/* For any report of an area of this capacity: report-written. */
 #define FIT_REPORT_BYTES_AT(capacity) (516 + 23 * (size_t)(capacity))
 
 /* The places of an entry's fields. */
 enum {
-    FIT_LEFT = 0,     /* the term on the left, as it was when the entry was appended: it may be a bound variable */
+    FIT_LEFT = 0,     /* the term on the left, as given or as the book has it: bindings are not followed */
     FIT_RIGHT = 1,    /* the term on the right */
     FIT_KIND = 2,     /* FIT_OPEN_PLACE or FIT_COMMON */
     FIT_SYMBOL = 3,   /* of a common entry the symbol of both sides, else 0 */
@@ -134,12 +138,14 @@ size_t fit_area_length(uint32_t capacity);
 uint32_t fit_open(uint32_t capacity, const uint8_t *book, size_t book_length, uint8_t *area, size_t area_length);
 
 /* Adds the line of the terms l and r; lines are numbered from 0 as they are added. Gives the line's entry in *entry: the lowest with
-   these two values, whose FIT_LEFT and FIT_RIGHT may be other terms than l and r, or a new one. Refuses with FIT_NOT_SOUND,
-   FIT_NAMES_NOTHING, FIT_TOO_MANY_LINES, FIT_FULL. */
+   these two values, whose FIT_LEFT and FIT_RIGHT may be other terms than l and r, or a new one. The same pair added again is a further
+   line with the same entry. Refuses with FIT_NOT_SOUND, FIT_NAMES_NOTHING, FIT_TOO_MANY_LINES, FIT_FULL. */
 uint32_t fit_add(uint8_t *area, size_t area_length, uint32_t l, uint32_t r, uint32_t *entry);
 
-/* Fixes a choice: binds the variable v to the term t, once and for all. Gives in *turned how many open entries turned common, in
-   *appended how many entries were appended. Refuses with FIT_NOT_SOUND, FIT_NAMES_NOTHING, FIT_NOT_FREE, FIT_OCCURS, FIT_FULL. */
+/* Fixes a choice: binds the variable v to the term t, once and for all; to try a step, copy the area before it. A variable that is bound
+   to a free variable is bound: to fix the choice further, bind the one that it stands for. Gives in *turned how many open entries turned
+   common, in *appended how many entries were appended. Refuses with FIT_NOT_SOUND, FIT_NAMES_NOTHING, FIT_NOT_FREE, FIT_OCCURS,
+   FIT_FULL. */
 uint32_t fit_bind(uint8_t *area, size_t area_length, uint32_t v, uint32_t t, uint32_t *turned, uint32_t *appended);
 
 /* Reads entry i into FIT_FIELDS numbers. Entries are numbered from 0 and keep their numbers; so the first i that is refused with
@@ -149,7 +155,7 @@ uint32_t fit_entry(const uint8_t *area, size_t area_length, uint32_t i, uint32_t
 /* Writes the report to the front of out, and in *written how many bytes it has. It is numbers, as a book's bytes are: the number of
    lines; each line's report entry; the number of report entries; for each of these the name of its left value, the name of its right
    value, then 0 for an open place, or symbol plus 1, the count and the report entries of the arguments. A value's name is the lowest
-   term that has it. A report entry is all entries with the same two values. They are numbered for this report alone: those of the
+   term that has it. One report entry stands for all entries with the same two values. They are numbered for this report alone: those of the
    lines first, in the order of the lines, then the arguments of each in rising number, left to right; none other is in it. Refuses with
    FIT_NOT_SOUND, FIT_TOO_SHORT. */
 uint32_t fit_report(const uint8_t *area, size_t area_length, uint8_t *out, size_t out_length, uint32_t *written);

@@ -1,8 +1,9 @@
 /* Readers of an area's layout (docs/LAYOUT.md), so that no program writes offsets by hand. C99 or C++11.
 
-   They are not proved; they are tested against fit_entry, fit_write and the report on many areas (tests/area_readers.c). They test
-   nothing themselves: an area that a call has just accepted is sound; call them only on such an area, with numbers of terms, lines and
-   entries that are below their counts, and places of arguments below the count of their term. */
+   They are not proved; they are tested against fit_entry, fit_write and the report on many areas (tests/area_readers.c of the
+   repository). They test nothing themselves: call them only on a sound area, which is one that the last call accepted, or refused with
+   another number than FIT_NOT_SOUND (a refused fit_open has not looked at it), with numbers of terms, lines and entries that are below
+   their counts, and places of arguments below the count of their term. */
 #ifndef FIT_AREA_H
 #define FIT_AREA_H
 

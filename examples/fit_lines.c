@@ -45,7 +45,7 @@ static const struct {
 
 #define PAIRS (sizeof pairs / sizeof *pairs)
 
-/* An entry of the report. Left and right are the terms that name its two values. */
+/* An entry of the report. Left and right are the terms that name its two values; such a term may be a bound variable. */
 struct entry {
     uint32_t left, right;
     uint32_t symbol_plus_1; /* 0 for an open place */

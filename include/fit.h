@@ -5,7 +5,8 @@
    bytes that the caller lends; it holds a book, its bindings (choices that were fixed), and a table of entries. A line is a pair of
    terms; its entry is read as a pattern, the narrowest one that covers both: a common entry is a symbol over its argument entries, an
    open place is where the two sides have no common symbol. A free variable has no symbol, so one free variable on both sides is an open
-   place too. A bound variable has the value of its term; two terms have the same value where all below them is the same.
+   place too. A bound variable has the value of its term. Two terms have the same value where, with bindings followed, they are one free
+   variable, or have one symbol and arguments of the same values: so two different free variables never have.
 
    - Every call returns 0 (FIT_OK) or the number of a refusal; fit_area_length alone returns a length. Numbers are never truncated:
      one that is out of range is refused.
@@ -17,9 +18,9 @@
      behind is never touched. A program reads it (fit_area.h), and never writes it.
    - Every call but opening tests the area whole: on any bytes it is safe, and it refuses what is too short or not sound. But an area that
      was altered may still be sound: what is saved or sent needs a checksum, and FIT_INTERFACE beside it.
-   - A call needs no heap and keeps nothing between calls. Give a thread that makes calls a stack of 1 MB. Several threads may call
-     fit_entry, fit_report and fit_write on one area at the same time, and read it by fit_area.h; while one of them calls fit_open,
-     fit_add or fit_bind on it, no other uses it. */
+   - A call needs no heap and keeps nothing between calls. Give a thread that makes calls 1 MB of stack, besides its thread-local storage.
+     Several threads may call fit_entry, fit_report and fit_write on one area at the same time, and read it by fit_area.h; while one of
+     them calls fit_open, fit_add or fit_bind on it, no other uses it. */
 #ifndef FIT_H
 #define FIT_H
 
@@ -43,7 +44,7 @@ enum {
     FIT_OUT_OF_RANGE = 4,    /* a number of terms, a symbol, a count of arguments or a capacity is out of range */
     FIT_NOT_LOWER = 5,       /* an argument is its own term or a higher one */
     FIT_TWO_COUNTS = 6,      /* a symbol has two counts of arguments in one book */
-    FIT_NOT_SOUND = 7,       /* the area is too short, or its parts do not agree; what calls leave is always sound */
+    FIT_NOT_SOUND = 7,       /* the area is too short, or its parts do not agree; what an accepted call leaves is sound */
     FIT_NAMES_NOTHING = 8,   /* there is no such term, or no such entry */
     FIT_NOT_FREE = 9,        /* what is to be bound has a symbol, or is bound already */
     FIT_OCCURS = 10,         /* the value of the term contains the variable, or is it */
@@ -100,13 +101,13 @@ static inline const char *fit_refusal(uint32_t refusal)
 /* The bytes of an area of a capacity from 1 to FIT_MAX_CAPACITY, as a constant: what fit_area_length gives. */
 #define FIT_AREA_BYTES(capacity) (46096 + 56 * (size_t)(capacity))
 
-/* Bytes that always suffice, each by a theorem of the repository (theory Lengths.antt). For any book: office-book-read, office-book. */
+/* Bytes that always suffice, each by a theorem of the repository (theory Lengths.antt). For any book: office-book-read, room-for-book. */
 #define FIT_BOOK_BYTES 19458
 
 /* For any report: room-for-report. */
 #define FIT_REPORT_BYTES 47620
 
-/* For any report of an area of this capacity: report-written. */
+/* For any report of an area of this capacity: room-at-capacity. */
 #define FIT_REPORT_BYTES_AT(capacity) (516 + 23 * (size_t)(capacity))
 
 /* The places of an entry's fields. */
@@ -137,15 +138,16 @@ size_t fit_area_length(uint32_t capacity);
    FIT_LEFT_OVER. */
 uint32_t fit_open(uint32_t capacity, const uint8_t *book, size_t book_length, uint8_t *area, size_t area_length);
 
-/* Adds the line of the terms l and r; lines are numbered from 0 as they are added. Gives the line's entry in *entry: the lowest with
-   these two values, whose FIT_LEFT and FIT_RIGHT may be other terms than l and r, or a new one. The same pair added again is a further
-   line with the same entry. Refuses with FIT_NOT_SOUND, FIT_NAMES_NOTHING, FIT_TOO_MANY_LINES, FIT_FULL. */
+/* Adds the line of the terms l and r, in this order; lines are numbered from 0 as they are added. Gives the line's entry in *entry: the
+   lowest with these two values, left and right, whose FIT_LEFT and FIT_RIGHT may be other terms than l and r, or a new one. The same pair
+   added again is a further line, with the same entry unless a choice in between has given a lower one these values. Refuses with
+   FIT_NOT_SOUND, FIT_NAMES_NOTHING, FIT_TOO_MANY_LINES, FIT_FULL. */
 uint32_t fit_add(uint8_t *area, size_t area_length, uint32_t l, uint32_t r, uint32_t *entry);
 
 /* Fixes a choice: binds the variable v to the term t, once and for all; to try a step, copy the area before it. A variable that is bound
-   to a free variable is bound: to fix the choice further, bind the one that it stands for. Gives in *turned how many open entries turned
-   common, in *appended how many entries were appended. Refuses with FIT_NOT_SOUND, FIT_NAMES_NOTHING, FIT_NOT_FREE, FIT_OCCURS,
-   FIT_FULL. */
+   to a free variable is bound: to fix the choice further, bind the one that it stands for. Gives in *turned how many open entries that were
+   there before turned common, each counted, and in *appended how many entries were appended, of either kind. Refuses with
+   FIT_NOT_SOUND, FIT_NAMES_NOTHING, FIT_NOT_FREE, FIT_OCCURS, FIT_FULL. */
 uint32_t fit_bind(uint8_t *area, size_t area_length, uint32_t v, uint32_t t, uint32_t *turned, uint32_t *appended);
 
 /* Reads entry i into FIT_FIELDS numbers. Entries are numbered from 0 and keep their numbers; so the first i that is refused with
@@ -155,9 +157,9 @@ uint32_t fit_entry(const uint8_t *area, size_t area_length, uint32_t i, uint32_t
 /* Writes the report to the front of out, and in *written how many bytes it has. It is numbers, as a book's bytes are: the number of
    lines; each line's report entry; the number of report entries; for each of these the name of its left value, the name of its right
    value, then 0 for an open place, or symbol plus 1, the count and the report entries of the arguments. A value's name is the lowest
-   term that has it. One report entry stands for all entries with the same two values. They are numbered for this report alone: those of the
-   lines first, in the order of the lines, then the arguments of each in rising number, left to right; none other is in it. Refuses with
-   FIT_NOT_SOUND, FIT_TOO_SHORT. */
+   term that has it, which may be a bound variable. One report entry stands for all entries with the same two values. They are numbered
+   for this report alone: those of the lines first, in the order of the lines, then the arguments of each in rising number, left to right;
+   none other is in it. Refuses with FIT_NOT_SOUND, FIT_TOO_SHORT. */
 uint32_t fit_report(const uint8_t *area, size_t area_length, uint8_t *out, size_t out_length, uint32_t *written);
 
 /* Writes the area's book, the bytes from which it was opened, to the front of out, and in *written how many; bindings are not among
@@ -165,7 +167,7 @@ uint32_t fit_report(const uint8_t *area, size_t area_length, uint8_t *out, size_
 uint32_t fit_write(const uint8_t *area, size_t area_length, uint8_t *out, size_t out_length, uint32_t *written);
 
 /* Reads a book and writes it to the front of out, with no area, and in *written how many bytes it has. Refuses the book as fit_open
-   does, then with FIT_TOO_SHORT. */
+   does, then with FIT_TOO_SHORT: so with out_length 0 that is the answer for every book that would open. */
 uint32_t fit_copy_book(const uint8_t *book, size_t book_length, uint8_t *out, size_t out_length, uint32_t *written);
 
 #ifdef __cplusplus

@@ -382,10 +382,10 @@ static void test_definitions(void)
         && FIT_REPORT_BYTES_AT(DEFINED_sessionCapacity) == DEFINED_longestSessionReport);
 }
 
-/* The fields of an entry by their names: entry 5, in which all numbers differ. */
+/* The fields of an entry by their names: entry 5, in which all numbers but 0 differ. */
 static void test_fields(void)
 {
-    const struct book book = BYTES(5, 0, 0, 0, 8, 2, 0, 1, 8, 2, 1, 2);
+    const struct book book = BYTES(5, 0, 0, 0, 10, 2, 0, 1, 10, 2, 1, 2);
     static const struct step lines[] = {
         {ADD, 0, 0, FIT_OK, {0}}, {ADD, 1, 1, FIT_OK, {1}}, {ADD, 2, 2, FIT_OK, {2}},
         {ADD, 0, 2, FIT_OK, {3}}, {ADD, 2, 0, FIT_OK, {4}}, {ADD, 3, 4, FIT_OK, {5}},
@@ -396,7 +396,7 @@ static void test_fields(void)
         holds = holds && takes(&lines[i], 8);
     holds = holds && make(ENTRY, NULL, 5, 0, fit_area_length(8), 0) == FIT_OK;
     test("fields", 5, holds && numbers[FIT_LEFT] == 3 && numbers[FIT_RIGHT] == 4 && numbers[FIT_KIND] == FIT_COMMON
-        && numbers[FIT_SYMBOL] == 7 && numbers[FIT_COUNT] == 2 && numbers[FIT_ARGUMENT] == 6 && numbers[FIT_ARGUMENT + 1] == 7
+        && numbers[FIT_SYMBOL] == 9 && numbers[FIT_COUNT] == 2 && numbers[FIT_ARGUMENT] == 6 && numbers[FIT_ARGUMENT + 1] == 7
         && numbers[FIT_SAME_AS] == 5);
     holds = holds && make(ENTRY, NULL, 6, 0, fit_area_length(8), 0) == FIT_OK;
     test("fields", 6, holds && numbers[FIT_KIND] == FIT_OPEN_PLACE && numbers[FIT_SYMBOL] == 0);

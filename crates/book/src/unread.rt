@@ -1,4 +1,4 @@
-// How far a book's bytes are read: up to the part that is refused (specs/unread/Unread.antt; docs/SPEC.md, "Bytes"). It is no part of what
+// How far a book's bytes are read: up to the part that is refused (specs/unread/Unread.antt; docs/SPEC.md, "Sessions"). It is no part of what
 // `decode` answers: each opening would have to keep where its term begins, measured at 6 % of its time.
 
 ghost use mathlib.Core.Path.{_≡_};

@@ -7,8 +7,24 @@ ghost use lib.ListN.{length, drop};
 ghost use Rattle.runs.specs.Runs.{overAt};
 ghost use Rattle.session.specs.text.Text.{lineFeed, maxDigits, numberMost, lineMost, decimal, spaced, following, lineText, numbersIn};
 
+// Writes the bytes of `part` at place `at` of `text`, and gives the place behind them.
+pub fn put_bytes(text: &mut [u8], at: usize, part: &[u8]) -> usize
+    requires { ⌜ at + length (now part) ≤ length (now text) ⌝ }
+    ensures next { λ r. ⌜ r ≡ at + length (now (part .entry)) ⌝ }
+    ensures bytes { λ r. ⌜ now (text .exit) ≡ overAt (now (text .entry)) at (now (part .entry)) ⌝ }
+{
+    let mut next = at;
+    let mut i: usize = 0;
+    while i < part.len() {
+        text[next] = part[i];
+        next += 1;
+        i += 1;
+    }
+    next
+}
+
 // Writes the digits of `n` at place `at` of `text`, and gives the place behind them.
-fn put_decimal(text: &mut [u8], at: usize, n: u32) -> usize
+pub fn put_decimal(text: &mut [u8], at: usize, n: u32) -> usize
     requires { ⌜ at + maxDigits ≤ length (now text) ⌝ }
     ensures next { λ r. ⌜ r ≡ at + length (decimal n) ⌝ }
     ensures bytes { λ r. ⌜ now (text .exit) ≡ overAt (now (text .entry)) at (decimal n) ⌝ }
@@ -80,7 +96,7 @@ fn put_numbers(bytes: &[u8], text: &mut [u8], at: usize) -> usize
 }
 
 // Writes a line feed at place `at` of `text`, and gives the place behind it.
-fn end_line(text: &mut [u8], at: usize) -> usize
+pub fn end_line(text: &mut [u8], at: usize) -> usize
     requires { ⌜ at < length (now text) ⌝ }
     ensures next { λ r. ⌜ r ≡ at + length (lineFeed ∷ []) ⌝ }
     ensures bytes { λ r. ⌜ now (text .exit) ≡ overAt (now (text .entry)) at (lineFeed ∷ []) ⌝ }

@@ -6,7 +6,7 @@ ghost use mathlib.Core.Path.{_≡_};
 ghost use mathlib.Core.Bool.{cond};
 ghost use Prim.Native.Nat.{_≤_};
 ghost use lib.ListN.{length, take};
-ghost use Rattle.model.specs.Limits.{office, sessionCapacity};
+ghost use Rattle.model.specs.Limits.{office, maxSession, sessionCapacity};
 ghost use Rattle.model.specs.Area.{areaLength};
 ghost use Rattle.theory.specs.Lengths.{longestSessionReport};
 ghost use Rattle.session.specs.text.Text.{lineMost};
@@ -16,7 +16,6 @@ use libc::STDERR_FILENO;
 use libc::STDIN_FILENO;
 use libc::STDOUT_FILENO;
 use printing::turns::Printout;
-use session::command::Command;
 use session::steps::Begun;
 
 // The bytes of an area of the session's capacity, of the longest report, and of the longest line of text.
@@ -62,87 +61,20 @@ fn print(printed: bool, text: &[u8]) -> bool {
     false
 }
 
-// Writes `part` at place `at` of `line`, as far as there is room, and gives the place behind it.
-fn append(line: &mut [u8], at: usize, part: &[u8]) -> usize
-    requires { ⌜ at ≤ length (now line) ⌝ }
-    ensures length { λ r. ⌜ length (now (line .exit)) ≡ length (now (line .entry)) ⌝ }
-    ensures count { λ r. ⌜ Counts r (now (line .exit)) ⌝ }
-{
-    let mut next = at;
-    let mut i: usize = 0;
-    while i < part.len() {
-        if next == line.len() {
-            return next;
-        }
-        line[next] = part[i];
-        next += 1;
-        i += 1;
-    }
-    next
-}
-
-// The same with the digits of a number.
-fn append_decimal(line: &mut [u8], at: usize, n: u64) -> usize
-    requires { ⌜ at ≤ length (now line) ⌝ }
-    ensures length { λ r. ⌜ length (now (line .exit)) ≡ length (now (line .entry)) ⌝ }
-    ensures count { λ r. ⌜ Counts r (now (line .exit)) ⌝ }
-{
-    let mut digits = [0u8; 20];
-    let k = io::decimal(n, &mut digits);
-    append(line, at, &digits[..k])
-}
-
-// The same with a refusal that ends a session, in words.
-fn append_words(line: &mut [u8], at: usize, refusal: u32) -> usize
-    requires { ⌜ at ≤ length (now line) ⌝ }
-    ensures length { λ r. ⌜ length (now (line .exit)) ≡ length (now (line .entry)) ⌝ }
-    ensures count { λ r. ⌜ Counts r (now (line .exit)) ⌝ }
-{
-    match refusal {
-        1 => append(
-            line,
-            at,
-            b"the bytes end too early: within a number, before one, or before the end of the book",
-        ),
-        2 => append(
-            line,
-            at,
-            b"a number not in shortest form, of more than three bytes, or above 65,535",
-        ),
-        3 => append(line, at, b"bytes after the last term of the book"),
-        4 => append(
-            line,
-            at,
-            b"a number of terms, a symbol or a count out of range, or a session of more than 65,536 bytes",
-        ),
-        5 => append(line, at, b"an argument that is not lower than its term"),
-        6 => append(line, at, b"a symbol with two counts"),
-        8 => append(line, at, b"an unknown step"),
-        _ => append(line, at, b""),
-    }
-}
-
-// Says at which position the input stops being a session, and the refusal, by one write. The line has at most 154 bytes: the longest
-// words have 91, the two numbers 20 and 10 digits.
-fn tell(at: usize, refusal: u32) {
-    let mut line = [0u8; 200];
-    let mut n = append(&mut line, 0, b"sessions: byte ");
-    n = append_decimal(&mut line, n, at as u64);
-    n = append(&mut line, n, b": refused with ");
-    n = append_decimal(&mut line, n, refusal as u64);
-    n = append(&mut line, n, b": ");
-    n = append_words(&mut line, n, refusal);
-    n = append(&mut line, n, b"\n");
+// Says on standard error where the opening is refused, and nothing where it is accepted.
+fn tell_opening(input: &[u8], begun: Begun) {
+    let mut line = [0u8; session::said::MOST];
+    let n = session::said::of_opening(input, begun, &mut line);
     io::write_all(STDERR_FILENO, &line[..n]);
 }
 
-// Says so of the step at position `at` where the session stops at it and is over: `next` is then the end of the input.
-fn tell_stop(input: &[u8], at: usize, next: usize) {
-    if next == input.len() {
-        if let Command::Stopped(refusal) = session::command::command_at(input, at) {
-            tell(at, refusal);
-        }
-    }
+// The same of the step at position `at`, where the session stops at it.
+fn tell_step(input: &[u8], at: usize)
+    requires { ⌜ at ≤ maxSession ⌝ }
+{
+    let mut line = [0u8; session::said::MOST];
+    let n = session::said::of_command(input, at, &mut line);
+    io::write_all(STDERR_FILENO, &line[..n]);
 }
 
 // The text that a turn shows.
@@ -168,6 +100,7 @@ fn steps(
     text: &mut [u8],
     opened: bool,
 ) -> usize
+    requires input { ⌜ length (now input) ≤ maxSession ⌝ }
     requires output { ⌜ length (now out) ≡ longestSessionReport ⌝ }
     requires lines { ⌜ (length (now report) ≡ lineMost 2 longestSessionReport) × (length (now text) ≡ lineMost 2 longestSessionReport) ⌝ }
     ensures { λ r. ⌜ standing r (now (area .exit)) (now (out .exit))
@@ -179,7 +112,7 @@ fn steps(
     while at < input.len() {
         let t = printing::turns::take_turn(input, at, area, out, report, kept, text);
         printed = print(printed, shown(t, report, text));
-        tell_stop(input, at, t.next);
+        tell_step(input, at);
         at = t.next;
         kept = t.kept;
     }
@@ -204,11 +137,9 @@ fn run_session(
     let begun = session::steps::open(input, area);
     let n = printing::lines::opening(begun, text);
     let opened = print(true, &text[..n]);
+    tell_opening(input, begun);
     match begun {
-        Begun::Refused(refusal) => {
-            tell(session::fault::opening_fault(input), refusal);
-            input.len()
-        }
+        Begun::Refused(refusal) => input.len(),
         Begun::At(first) => steps(input, first, area, out, report, text, opened),
     }
 }

@@ -12,7 +12,7 @@ use Rattle.model.specs.Step.{State}
 use Rattle.model.specs.Report.{reportBytes}
 use Rattle.model.specs.BookBytes.{parsed, parseBook, bookBytes}
 use Rattle.model.specs.Area.{soundState, sound, stateOf}
-use Rattle.model.specs.Call.{callReport}
+use Rattle.model.specs.Call.{callReport, callWrite}
 use Rattle.theory.specs.Modest.{Modest}
 
 -- Within the office's limits a number takes at most two bytes, and the count of a symbol's arguments one. So a term takes at most
@@ -52,9 +52,13 @@ pub record Lengths : Type 0 where
   pub office-book-read : (bytes : List ℕ) (b : Book) (rest : List ℕ) → T (areBytes bytes) → parseBook office bytes ≡ parsed b rest
       → length bytes ≤ longestBook
   pub office-book : (s : State) → T (soundState office s) → length (bookBytes (s .book)) ≤ longestBook
+  pub report-at-capacity : (s : State) → T (soundState office s) → length (reportBytes s) ≤ reportMost (office .maxLines) (s .capacity)
   pub office-report : (s : State) → T (soundState office s) → length (reportBytes s) ≤ longestReport
   pub session-report : (s : State) → T (soundState office s) → s .capacity ≡ sessionCapacity → length (reportBytes s) ≤ longestSessionReport
-  -- so a report of a sound area into an output of that length is not refused
+  -- so the book and the report of a sound area into an output of that length are not refused
+  pub room-for-book : (area out : List ℕ) → T (sound office area) → longestBook ≤ length out → callWrite office area out .refusal ≡ 0
+  pub room-at-capacity : (area out : List ℕ) → T (sound office area)
+      → reportMost (office .maxLines) (stateOf area office .capacity) ≤ length out → callReport office area out .refusal ≡ 0
   pub room-for-report : (area out : List ℕ) → T (sound office area) → longestReport ≤ length out → callReport office area out .refusal ≡ 0
   pub room-in-session : (area out : List ℕ) → T (sound office area) → stateOf area office .capacity ≡ sessionCapacity
       → longestSessionReport ≤ length out → callReport office area out .refusal ≡ 0

@@ -1,6 +1,6 @@
--- How far a book's bytes are read: up to the part that is refused, and to the end where none is (document 01, "Bytes"). The parts are
--- the number of terms, each term, and what is left behind the last one. Definitions, statements of what is proved in
--- proofs/unread/Unread.antt, and samples by computation.
+-- How far a book's bytes are read: up to the part that is refused, and to the end where none is (docs/SPEC.md, "Sessions", on standard
+-- error). The parts are the number of terms, each term, and what is left behind the last one. Definitions, statements of what is proved
+-- in proofs/unread/Unread.antt, and samples by computation.
 use mathlib.Core.Path.{_≡_, refl}
 use mathlib.Core.List.{List, [], _∷_, _++_, map}
 use Prim.Native.Nat.{ℕ, zero, suc, _-_, _<_}

@@ -2,7 +2,7 @@
 use mathlib.Core.Path.{_≡_, refl, ap, _∙_}
 use mathlib.Core.List.{List}
 use mathlib.Core.Bool.{Bool, true, false, cond}
-use Prim.Native.Nat.{ℕ, _+_, _-_}
+use Prim.Native.Nat.{ℕ, _+_, _-_, _≤_}
 use native.Mathlib.Omega.{arith}
 use lib.ListN.{length, take, drop, length-take, length-drop}
 use lib.Dec.{eqb, leb}
@@ -21,7 +21,7 @@ use Rattle.session.specs.steps.Effects.{notBegun, begun, openBook, start
 use Rattle.session.specs.fault.Fault.{bookFault, openingFault, AcceptedFault}
 
 -- a refusal is not a position
-not-begun : {n p : ℕ} → Refused n ≡ At p → ⊥
+pub not-begun : {n p : ℕ} → Refused n ≡ At p → ⊥
 not-begun e = let z : _≡_ {A = ℕ} 0 1 = cc in omega arith
 
 -- an opening that is accepted is one whose call answers 0
@@ -64,3 +64,13 @@ module _ (input area : List ℕ) (p : ℕ) where
 
 pub accepted-fault : AcceptedFault
 accepted-fault = opening-accepted
+
+-- such a session is not too long
+pub accepted-short : (input area : List ℕ) (p : ℕ) → start input area .answer ≡ At p → length input ≤ maxSession
+unfolding start notBegun
+accepted-short input area p = go (leb (length input) maxSession) refl
+  where
+    go : (t : Bool) → leb (length input) maxSession ≡ t
+        → cond t (openBook input area (readAt maxGroups maxNumber input 0)) (notBegun area 4) .answer ≡ At p → length input ≤ maxSession
+    go true e h = leb-true (length input) maxSession e
+    go false e h = absurd (not-begun h)

@@ -1,19 +1,20 @@
--- Where the opening of a session is refused: the position of the part that is (document 01, "Sessions"). Definitions, a sample by
--- computation, and the statement of what is proved in proofs/fault/Accepted.antt. Assumes nothing.
+-- Where the opening of a session is refused: the position of the part that is (docs/SPEC.md, "Sessions", on standard error).
+-- Definitions, samples by computation, and statements of what is proved in proofs/fault/.
 use mathlib.Core.Path.{_≡_, refl}
 use mathlib.Core.List.{List, [], _∷_, map}
 use mathlib.Core.Bool.{cond}
-use Prim.Native.Nat.{ℕ, _+_, _-_}
+use Prim.Native.Nat.{ℕ, _+_, _-_, _≤_, _<_}
 use lib.ListN.{length, take, drop}
 use lib.Dec.{leb}
 use Rattle.leb128.specs.Number.{maxGroups, maxNumber}
 use Rattle.leb128.specs.Answer.{placed, readAt}
 use Rattle.leb128.specs.declared.Decoded.{Decoded}
 use Rattle.leb128.specs.declared.Decoded.the-variants.{Number, Cut, Invalid}
-use Rattle.model.specs.Limits.{office, maxSession}
+use Rattle.model.specs.Limits.{office, maxSession, sessionCapacity}
+use Rattle.model.specs.Area.{areaLength}
 use Rattle.model.specs.Computing.{computation}
-use Rattle.book.specs.unread.Unread.{orLeft, unreadTerms, unreadBook, readTo}
-use Rattle.session.specs.declared.steps.Begun.the-variants.{At}
+use Rattle.book.specs.unread.Unread.{orLeft, unreadTerms, unreadBook, readTo, RefusedAt}
+use Rattle.session.specs.declared.steps.Begun.the-variants.{Refused, At}
 use Rattle.session.specs.steps.Effects.{start}
 
 -- By the length that was read: 0 where it is cut, not valid, or runs past the end of the input; else the position up to which the
@@ -36,6 +37,24 @@ pub fault-samples :
 unfolding computation placed readAt orLeft unreadTerms unreadBook readTo bookFault openingFault
 fault-samples = refl
 
--- STATEMENT. Of an opening that is accepted it is where the steps begin, the end of the book.
+-- STATEMENTS. Of an opening that is accepted it is where the steps begin, the end of the book.
 abbrev pub AcceptedFault : Type 0
 AcceptedFault = (input area : List ℕ) (p : ℕ) → start input area .answer ≡ At p → openingFault input ≡ p
+
+-- And of one that is refused with k, the part that is refused begins there: the first byte too many; the book's length, at the front,
+-- where it is cut, not valid or past the end of the input; or the part of the book that is refused with k.
+abbrev bookLength : List ℕ → Decoded
+bookLength input = readAt maxGroups maxNumber input 0
+
+pub data FaultAt (input : List ℕ) (k : ℕ) : Type 0 where
+  too-long : maxSession < length input → k ≡ 4 → openingFault input ≡ maxSession → FaultAt input k
+  length-cut : bookLength input ≡ Cut → k ≡ 1 → openingFault input ≡ 0 → FaultAt input k
+  length-invalid : bookLength input ≡ Invalid → k ≡ 2 → openingFault input ≡ 0 → FaultAt input k
+  length-past-end : (n at : ℕ) → bookLength input ≡ Number n at → length input - at < n → k ≡ 1 → openingFault input ≡ 0 → FaultAt input k
+  book-refused : (n at : ℕ) → bookLength input ≡ Number n at → n ≤ length input - at → RefusedAt office (take n (drop at input)) k
+      → openingFault input ≡ at + readTo office (take n (drop at input)) → FaultAt input k
+
+-- The area has the length that the session's capacity needs.
+abbrev pub RefusedFault : Type 0
+RefusedFault = (input area : List ℕ) (k : ℕ) → areaLength office sessionCapacity ≤ length area → start input area .answer ≡ Refused k
+    → FaultAt input k

@@ -10,6 +10,7 @@ use lib.Seq.{length-take-le}
 use Rattle.session.specs.declared.steps.Begun.{Begun}
 use Rattle.session.specs.declared.steps.Begun.the-variants.{Refused, At}
 use Rattle.session.specs.steps.Effects.{start, firstOr}
+use Rattle.session.proofs.fault.Accepted.{accepted-short}
 use Rattle.printing.specs.whole.Loop.{standing, afterStart, endFrom, sessionEnd}
 use Rattle.printing.proofs.lines.Printing.{opening-within}
 use Rattle.printing.proofs.whole.Loop.{turn-by-turn}
@@ -38,17 +39,26 @@ slice-reshare-prefix-print c = opening-within _ _ _ _ (c .before .before .openin
 slice-aggregate-print : tie.Need-slice-aggregate-print
 slice-aggregate-print c = sym (length-take-le _ _ (opening-within _ _ _ _ (c .before .before .before .opening .ensures)))
 
+steps-requires : tie.Need-steps-requires
+steps-requires c κs =
+    let known = c .before .before .before .before .before in
+    let shown = known .before .before .before .before .before .before .before in
+    let opened = shown .before .before .before .before in
+    let s = opened .before .before .before .before .before .before .before in
+    let short = accepted-short _ _ _ (sym (opened .«open» .ensures .0) ∙ known .begun2 .given .1) in
+    (short, (s .pre .1 .0, (s .pre .1 .1 .0, shown .opening .kept .1 .0 ∙ s .pre .1 .1 .1)))
+
 returns : tie.Need-returns
 returns c =
-    let known = c .before .before .before in
-    let begins = known .before .before .before .before .before .before .before .before .before .before .«open» .ensures in
+    let known = c .before in
+    let begins = known .before .before .before .before .before .before .before .before .before .before .before .«open» .ensures in
     ends _ _ _ _ (begins .0) (begins .1 .0) (known .begun .given .1)
 
 returns-2 : tie.Need-returns-2
 returns-2 c =
     let taken = c .before .before .before .before .before .before .before .before in
     let known = taken .before .before .before .before .before .before in
-    let begins = known .before .before .before .before .before .before .before .before .before .before .«open» .ensures in
+    let begins = known .before .before .before .before .before .before .before .before .before .before .before .«open» .ensures in
     taken .steps .ensures ∙ goes-on _ _ _ _ (begins .0) (begins .1 .0) (known .begun2 .given .1)
 
 pub run-session-spec : {M : Type 1} → statement M
@@ -60,11 +70,10 @@ run-session-spec =
     slice-reshare-prefix-print
     slice-aggregate-print
     (λ c κs. search needs)
-    (λ c. search needs)
-    (λ c κs. search needs)
     (λ c κs. search needs)
     (λ c. search needs)
-    (λ c κs. search needs)
+    (λ c. search needs)
+    steps-requires
     (λ c. search needs)
     (λ c. search needs)
     returns

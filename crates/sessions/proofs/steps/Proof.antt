@@ -50,8 +50,8 @@ shown-requires c κs = c .before .before .before .before .before .before .before
 print-requires : tie.Need-print-requires Inv-loop μ-loop
 print-requires c κs = search needs
 
-tell-stop-requires : tie.Need-tell-stop-requires Inv-loop μ-loop
-tell-stop-requires c κs = search needs
+tell-step-requires : tie.Need-tell-step-requires Inv-loop μ-loop
+tell-step-requires c κs = search needs
 
 loop-less : tie.Need-loop-less Inv-loop μ-loop
 loop-less c =
@@ -99,7 +99,7 @@ steps-spec =
     take-turn-requires
     shown-requires
     print-requires
-    tell-stop-requires
+    tell-step-requires
     loop-less
     loop-again
     same-length

@@ -19,9 +19,9 @@ use Rattle.model.specs.Step.{State}
 use Rattle.model.specs.Report.{number, kindNumbers, entryNumbers, report, numberBytes, reportBytes}
 use Rattle.model.specs.BookBytes.{parsed, parseBook, nodeNumbers, bookBytes}
 use Rattle.model.specs.Area.{soundState, sound, stateOf}
-use Rattle.model.specs.Call.{accept, guard, emit, callReport}
+use Rattle.model.specs.Call.{accept, guard, emit, callReport, callWrite}
 use Rattle.theory.specs.Modest.{Modest}
-use Rattle.theory.specs.Lengths.{termMost, entryMost, bookMost, reportMost, longestReport, longestSessionReport, Lengths}
+use Rattle.theory.specs.Lengths.{termMost, entryMost, bookMost, reportMost, longestBook, longestReport, longestSessionReport, Lengths}
 use Rattle.theory.proofs.Soundness.Facts.{Formed, SoundFacts, KindRight}
 use Rattle.theory.proofs.Soundness.Test.{sound-facts, facts-sound}
 use Rattle.theory.proofs.Lists.Laws.{T-true, concatMap-append}
@@ -171,19 +171,28 @@ pub office-modest : Modest office
 office-modest = record { terms = omega arith; capacity = omega arith; lines = omega arith }
 
 module _ (s : State) (h : T (soundState office s)) where
-  office-report : length (reportBytes s) ≤ longestReport
-  office-report =
-      let f = facts office office-modest s h in omega (arith, report-written office office-modest s h, f .few-lines, f .few-entries, f .capacity-fits)
+  office-book : length (bookBytes (s .book)) ≤ longestBook
+  office-book = omega (arith, book-written office office-modest s h, facts office office-modest s h .few-terms)
 
-  session-report : s .capacity ≡ sessionCapacity → length (reportBytes s) ≤ longestSessionReport
-  session-report e =
+  report-at-capacity : length (reportBytes s) ≤ reportMost (office .maxLines) (s .capacity)
+  report-at-capacity =
       let f = facts office office-modest s h in omega (arith, report-written office office-modest s h, f .few-lines, f .few-entries)
 
--- a report of a sound area that fits is not refused
-room : (area out : List ℕ) → T (sound office area) → length (reportBytes (stateOf area office)) ≤ length out
-    → callReport office area out .refusal ≡ 0
-unfolding callReport guard emit accept
-room area out h l = rw (T-true (sound office area) h, le-leb (length (reportBytes (stateOf area office))) (length out) l)
+  office-report : length (reportBytes s) ≤ longestReport
+  office-report = omega (arith, report-at-capacity, facts office office-modest s h .capacity-fits)
+
+  session-report : s .capacity ≡ sessionCapacity → length (reportBytes s) ≤ longestSessionReport
+  session-report e = omega (arith, report-at-capacity)
+
+-- a book, or a report, of a sound area that fits is not refused
+module _ (area out : List ℕ) (h : T (sound office area)) where
+  book-room : length (bookBytes (stateOf area office .book)) ≤ length out → callWrite office area out .refusal ≡ 0
+  unfolding callWrite guard emit accept
+  book-room l = rw (T-true (sound office area) h, le-leb (length (bookBytes (stateOf area office .book))) (length out) l)
+
+  report-room : length (reportBytes (stateOf area office)) ≤ length out → callReport office area out .refusal ≡ 0
+  unfolding callReport guard emit accept
+  report-room l = rw (T-true (sound office area) h, le-leb (length (reportBytes (stateOf area office))) (length out) l)
 
 -- the state of a sound area is sound
 state-sound : (area : List ℕ) → T (sound office area) → T (soundState office (stateOf area office))
@@ -196,10 +205,12 @@ lengths =
       book-written = book-written;
       report-written = report-written;
       office-book-read = λ bytes b rest h e. let r = book-read office office-modest bytes b rest h e in omega (arith, r .0, r .1);
-      office-book = λ s h. omega (arith, book-written office office-modest s h, facts office office-modest s h .few-terms);
+      office-book = office-book;
+      report-at-capacity = report-at-capacity;
       office-report = office-report;
       session-report = session-report;
-      room-for-report = λ area out h l. room area out h (omega (arith, office-report (stateOf area office) (state-sound area h)));
-      room-in-session = λ area out h e l.
-          room area out h (omega (arith, session-report (stateOf area office) (state-sound area h) e));
+      room-for-book = λ area out h l. book-room area out h (omega (arith, office-book (stateOf area office) (state-sound area h)));
+      room-at-capacity = λ area out h l. report-room area out h (omega (arith, report-at-capacity (stateOf area office) (state-sound area h)));
+      room-for-report = λ area out h l. report-room area out h (omega (arith, office-report (stateOf area office) (state-sound area h)));
+      room-in-session = λ area out h e l. report-room area out h (omega (arith, session-report (stateOf area office) (state-sound area h) e));
     }

@@ -101,7 +101,7 @@ static inline const char *fit_refusal(uint32_t refusal)
 /* The bytes of an area of a capacity from 1 to FIT_MAX_CAPACITY, as a constant: what fit_area_length gives. */
 #define FIT_AREA_BYTES(capacity) (46096 + 56 * (size_t)(capacity))
 
-/* Bytes that always suffice, each by a theorem of the repository (theory Lengths.antt). For any book: office-book-read, room-for-book. */
+/* Bytes that always suffice, each by a theorem of the repository (theory Lengths.antt). For any book: room-for-book, room-for-copy. */
 #define FIT_BOOK_BYTES 19458
 
 /* For any report: room-for-report. */

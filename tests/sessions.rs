@@ -488,6 +488,9 @@ fn failing() -> Vec<bool> {
         ends(broken_off(&[1, 0, 3]), "0\n0 0 0\n", "sessions: standard input: Resource temporarily unavailable\n"),
         ends(shell(&format!("printf '\\001\\000\\003\\003\\005' | {PROGRAM} >/dev/full")), "", &full),
         ends(shell(&format!("printf '\\001\\000\\003' | {PROGRAM} >&-")), "", closed),
+        // what is said comes behind the line of its refusal
+        ends(shell(&format!("printf '\\001\\000\\005' | {PROGRAM} 2>&1")), &format!("0\n8\n{}", End::said(2, 8)), ""),
+        ends(shell(&format!("printf '\\002\\000\\005' | {PROGRAM} 2>&1")), &format!("3\n{}", End::said(2, 3)), ""),
         output_closed(),
         said_at_once(),
     ]

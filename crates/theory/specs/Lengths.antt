@@ -12,7 +12,7 @@ use Rattle.model.specs.Step.{State}
 use Rattle.model.specs.Report.{reportBytes}
 use Rattle.model.specs.BookBytes.{parsed, parseBook, bookBytes}
 use Rattle.model.specs.Area.{soundState, sound, stateOf}
-use Rattle.model.specs.Call.{callReport, callWrite}
+use Rattle.model.specs.Call.{callReport, callWrite, callCopy}
 use Rattle.theory.specs.Modest.{Modest}
 
 -- Within the office's limits a number takes at most two bytes, and the count of a symbol's arguments one. So a term takes at most
@@ -30,7 +30,7 @@ bookMost terms = 2 + termMost * terms
 abbrev pub reportMost : ℕ → ℕ → ℕ
 reportMost lines entries = 2 + 2 * lines + 2 + entryMost * entries
 
--- docs/SPEC.md's numbers: the longest book, the longest report, and the longest report in a session
+-- docs/SPEC.md's numbers: no book is longer, no report, and no report in a session
 abbrev pub longestBook : ℕ
 longestBook = 19458
 
@@ -55,7 +55,9 @@ pub record Lengths : Type 0 where
   pub report-at-capacity : (s : State) → T (soundState office s) → length (reportBytes s) ≤ reportMost (office .maxLines) (s .capacity)
   pub office-report : (s : State) → T (soundState office s) → length (reportBytes s) ≤ longestReport
   pub session-report : (s : State) → T (soundState office s) → s .capacity ≡ sessionCapacity → length (reportBytes s) ≤ longestSessionReport
-  -- so the book and the report of a sound area into an output of that length are not refused
+  -- so a book that opens, and the book and the report of a sound area, into an output of that length are not refused
+  pub room-for-copy : (book out : List ℕ) (b : Book) (rest : List ℕ) → T (areBytes book) → parseBook office book ≡ parsed b rest
+      → longestBook ≤ length out → callCopy office book out .refusal ≡ 0
   pub room-for-book : (area out : List ℕ) → T (sound office area) → longestBook ≤ length out → callWrite office area out .refusal ≡ 0
   pub room-at-capacity : (area out : List ℕ) → T (sound office area)
       → reportMost (office .maxLines) (stateOf area office .capacity) ≤ length out → callReport office area out .refusal ≡ 0

@@ -1,8 +1,8 @@
 -- An opening that is refused is refused where its fault is, part by part; and a fault is within the longest session. Assumes nothing.
 use mathlib.Core.Path.{_≡_, refl, sym, ap, _∙_}
-use mathlib.Core.List.{List, []}
+use mathlib.Core.List.{List}
 use mathlib.Core.Bool.{Bool, true, false, cond}
-use Prim.Native.Nat.{ℕ, _+_, _-_, _≤_, _<_}
+use Prim.Native.Nat.{ℕ, _+_, _-_, _≤_}
 use native.Mathlib.Omega.{arith}
 use lib.ListN.{length, take, drop, length-take, length-drop}
 use lib.Dec.{eqb, leb}
@@ -15,10 +15,9 @@ use Rattle.model.specs.Limits.{office, maxSession, sessionCapacity}
 use Rattle.model.specs.Term.{Book}
 use Rattle.model.specs.BookBytes.{Parsed, parsed, unparsed, parseBook}
 use Rattle.model.specs.Area.{areaLength}
-use Rattle.model.specs.Call.{Outcome, accept, refuse, guard, openParsed, callOpen}
+use Rattle.model.specs.Call.{accept, refuse, guard, openParsed, callOpen}
 use Rattle.book.specs.unread.Unread.{unreadBook, readTo}
 use Rattle.book.proofs.unread.Unread.{refused-there}
-use Rattle.session.specs.declared.steps.Begun.{Begun}
 use Rattle.session.specs.declared.steps.Begun.the-variants.{Refused, At}
 use Rattle.session.specs.steps.Effects.{notBegun, begun, openBook, start}
 use Rattle.session.specs.fault.Fault.{bookFault, openingFault, FaultAt, too-long, length-cut, length-invalid, length-past-end, book-refused, RefusedFault}

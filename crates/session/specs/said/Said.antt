@@ -1,26 +1,31 @@
 -- What a session says on standard error where its input stops being one (docs/SPEC.md, "Sessions"): a line with the position of the part
--- that is refused, the refusal, and the refusal in words. Definitions, and a sample by computation. Assumes nothing.
+-- that is refused, the refusal, and the refusal in words. Definitions, a sample by computation, and a statement of what is proved in
+-- proofs/said/Worded.antt.
 use mathlib.Core.Path.{_≡_, refl}
 use mathlib.Core.List.{List, [], _∷_, _++_}
 use mathlib.Core.Bool.{cond}
-use Prim.Native.Nat.{ℕ, _+_}
+use Prim.Native.Nat.{ℕ, _+_, _≤_}
 use Prim.Native.Char.{code}
 use Prim.Native.String.{String, [] as none, _∷_ as _followedBy_}
 use lib.ListN.{length}
 use lib.Dec.{eqb}
+use Rattle.model.specs.Limits.{office, sessionCapacity}
+use Rattle.model.specs.Area.{areaLength}
 use Rattle.session.specs.text.Text.{lineFeed, maxDigits, digits, decimal}
 use Rattle.session.specs.declared.command.Command.{Command}
 use Rattle.session.specs.declared.command.Command.the-variants.{Ended, Stopped, Take, Report}
+use Rattle.session.specs.command.Commands.{commandAt}
 use Rattle.session.specs.declared.steps.Begun.{Begun}
 use Rattle.session.specs.declared.steps.Begun.the-variants.{Refused, At}
+use Rattle.session.specs.steps.Effects.{start}
 use Rattle.session.specs.fault.Fault.{openingFault}
 
--- A text as bytes: the codes of its characters, each of which is below 128.
+-- A text as bytes: the codes of its characters, which in the texts below are under 128.
 unfoldable pub ascii : String → List ℕ
 ascii none = []
 ascii (c followedBy s) = code c ∷ ascii s
 
--- The refusals that end a session, in words. No other ends one.
+-- The refusals that end a session, in words.
 unfoldable pub words : ℕ → List ℕ
 words k =
     cond (eqb k 1) (ascii "the bytes end too early: within a number, before one, or before the end of the book")
@@ -59,3 +64,10 @@ commandSaid at (Report next) = []
 pub said-sample : saidLine 12 8 ≡ ascii "sessions: byte 12: refused with 8: an unknown step\n"
 unfolding saidLine words ascii decimal digits
 said-sample = refl
+
+-- STATEMENT. Every refusal that ends a session has words: that of an opening, where the area has the length that the session's capacity
+-- needs, and that of a step.
+pub record Worded : Type 0 where
+  pub openings : (input area : List ℕ) (k : ℕ) → areaLength office sessionCapacity ≤ length area → start input area .answer ≡ Refused k
+      → words k ≡ [] → ⊥
+  pub steps : (input : List ℕ) (at k : ℕ) → commandAt input at ≡ Stopped k → words k ≡ [] → ⊥

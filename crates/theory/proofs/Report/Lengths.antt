@@ -19,7 +19,7 @@ use Rattle.model.specs.Step.{State}
 use Rattle.model.specs.Report.{number, kindNumbers, entryNumbers, report, numberBytes, reportBytes}
 use Rattle.model.specs.BookBytes.{parsed, parseBook, nodeNumbers, bookBytes}
 use Rattle.model.specs.Area.{soundState, sound, stateOf}
-use Rattle.model.specs.Call.{accept, guard, emit, callReport, callWrite}
+use Rattle.model.specs.Call.{accept, guard, emit, copyParsed, callReport, callWrite, callCopy}
 use Rattle.theory.specs.Modest.{Modest}
 use Rattle.theory.specs.Lengths.{termMost, entryMost, bookMost, reportMost, longestBook, longestReport, longestSessionReport, Lengths}
 use Rattle.theory.proofs.Soundness.Facts.{Formed, SoundFacts, KindRight}
@@ -184,6 +184,17 @@ module _ (s : State) (h : T (soundState office s)) where
   session-report : s .capacity ≡ sessionCapacity → length (reportBytes s) ≤ longestSessionReport
   session-report e = omega (arith, report-at-capacity)
 
+-- of bytes that open as a book there are no more, and these are written back
+module _ (book : List ℕ) (b : Book) (rest : List ℕ) (h : T (areBytes book)) (e : parseBook office book ≡ parsed b rest) where
+  office-book-read : length book ≤ longestBook
+  office-book-read = let r = book-read office office-modest book b rest h e in omega (arith, r .0, r .1)
+
+  copy-room : (out : List ℕ) → longestBook ≤ length out → callCopy office book out .refusal ≡ 0
+  unfolding callCopy copyParsed guard emit accept
+  copy-room out l =
+      let fits : length (bookBytes b) ≤ length out = rw (written-back office book b rest h e) (omega (arith, office-book-read)) in
+      rw (e, le-leb (length (bookBytes b)) (length out) fits)
+
 -- a book, or a report, of a sound area that fits is not refused
 module _ (area out : List ℕ) (h : T (sound office area)) where
   book-room : length (bookBytes (stateOf area office .book)) ≤ length out → callWrite office area out .refusal ≡ 0
@@ -204,11 +215,12 @@ lengths =
       book-read = λ lim m bytes b rest h e. book-read lim m bytes b rest h e .0;
       book-written = book-written;
       report-written = report-written;
-      office-book-read = λ bytes b rest h e. let r = book-read office office-modest bytes b rest h e in omega (arith, r .0, r .1);
+      office-book-read = office-book-read;
       office-book = office-book;
       report-at-capacity = report-at-capacity;
       office-report = office-report;
       session-report = session-report;
+      room-for-copy = λ book out b rest h e l. copy-room book b rest h e out l;
       room-for-book = λ area out h l. book-room area out h (omega (arith, office-book (stateOf area office) (state-sound area h)));
       room-at-capacity = λ area out h l. report-room area out h (omega (arith, report-at-capacity (stateOf area office) (state-sound area h)));
       room-for-report = λ area out h l. report-room area out h (omega (arith, office-report (stateOf area office) (state-sound area h)));

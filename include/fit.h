@@ -10,10 +10,10 @@
 
    - Every call returns 0 (FIT_OK) or the number of a refusal; fit_area_length alone returns a length. Numbers are never truncated:
      one that is out of range is refused.
-   - A refusal changes no byte of a book, an area or an output, and sets every answer (*entry, *turned, *appended, *written, all
-     fields) to 0. An accepted call sets every answer. They need not be set before.
-   - No pointer is null, also where the length is 0: pass the address of any byte. No two buffers or answers of one call overlap.
-     Nothing in C can check this.
+   - A refusal changes no byte of a book, a list, an area or an output, and sets every answer (*entry, *turned, *appended, *written,
+     *list_written, all fields) to 0. An accepted call sets every answer. They need not be set before.
+   - No pointer is null, also where the length is 0: pass the address of any byte. No two buffers or answers of one call overlap: no book
+     is copied, stored or restored in place, and two outputs or two answers are never one. Nothing in C can check this.
    - An area has no pointers and needs no alignment: copy it, move it, save it, load it as bytes. It may be longer than it needs; what is
      behind is never touched. A program reads it (fit_area.h), and never writes it.
    - Every call but opening tests the area whole: on any bytes it is safe, and it refuses what is too short or not sound. But an area that
@@ -38,11 +38,11 @@ extern "C" {
 /* What a call returns. Of the tests of a call the first that fails decides; each call below lists its own in their order. */
 enum {
     FIT_OK = 0,              /* accepted */
-    FIT_CUT = 1,             /* the bytes of a book end before a number, or after one or two bytes of an unfinished one */
-    FIT_BAD_NUMBER = 2,      /* a number of a book is not in shortest form, has 0x80 set in its third byte, or is above 65,535 */
-    FIT_LEFT_OVER = 3,       /* bytes after the last term of a book */
+    FIT_CUT = 1,             /* the bytes of a book or list end before a number, or after one or two bytes of an unfinished one */
+    FIT_BAD_NUMBER = 2,      /* a number of a book or list is not in shortest form, has 0x80 set in its third byte, or is above 65,535 */
+    FIT_LEFT_OVER = 3,       /* bytes after the last term of a book, or after the last number of a list */
     FIT_OUT_OF_RANGE = 4,    /* a number of terms, a symbol, a count of arguments or a capacity is out of range */
-    FIT_NOT_LOWER = 5,       /* an argument is its own term or a higher one */
+    FIT_NOT_LOWER = 5,       /* an argument is its own term or a higher one, in a book or in the book that is restored */
     FIT_TWO_COUNTS = 6,      /* a symbol has two counts of arguments in one book */
     FIT_NOT_SOUND = 7,       /* the area is too short, or its parts do not agree; what an accepted call leaves is sound */
     FIT_NAMES_NOTHING = 8,   /* there is no such term, or no such entry */
@@ -50,7 +50,8 @@ enum {
     FIT_OCCURS = 10,         /* the value of the term contains the variable, or is it */
     FIT_FULL = 11,           /* the step needs more entries than the capacity */
     FIT_TOO_MANY_LINES = 12, /* the area has FIT_MAX_LINES lines */
-    FIT_TOO_SHORT = 13,      /* the output is too short for the bytes to be written */
+    FIT_TOO_SHORT = 13,      /* an output is too short for the bytes to be written */
+    FIT_NAMED_TWICE = 14,    /* a list names a term twice */
 };
 
 /* A refusal in a line of text. */
@@ -64,7 +65,7 @@ static inline const char *fit_refusal(uint32_t refusal)
     case FIT_BAD_NUMBER:
         return "a number not in shortest form, of more than three bytes, or above 65,535";
     case FIT_LEFT_OVER:
-        return "bytes after the last term of the book";
+        return "bytes after the last term of the book, or after the list";
     case FIT_OUT_OF_RANGE:
         return "a number of terms, a symbol, a count or a capacity out of range";
     case FIT_NOT_LOWER:
@@ -85,6 +86,8 @@ static inline const char *fit_refusal(uint32_t refusal)
         return "a line too many";
     case FIT_TOO_SHORT:
         return "an output that is too short";
+    case FIT_NAMED_TWICE:
+        return "a list that names a term twice";
     default:
         return "not a number of this interface";
     }
@@ -101,8 +104,12 @@ static inline const char *fit_refusal(uint32_t refusal)
 /* The bytes of an area of a capacity from 1 to FIT_MAX_CAPACITY, as a constant: what fit_area_length gives. */
 #define FIT_AREA_BYTES(capacity) (46096 + 56 * (size_t)(capacity))
 
-/* Bytes that always suffice, each by a theorem of the repository (theory Lengths.antt). For any book: room-for-book, room-for-copy. */
+/* Bytes that always suffice, each by theorems of the repository (theory Lengths.antt). For any book, stored or restored too:
+   room-for-book, room-for-copy, room-to-store, room-to-restore. */
 #define FIT_BOOK_BYTES 19458
+
+/* For any list: room-to-store. */
+#define FIT_LIST_BYTES 2048
 
 /* For any report: room-for-report. */
 #define FIT_REPORT_BYTES 47620
@@ -169,6 +176,24 @@ uint32_t fit_write(const uint8_t *area, size_t area_length, uint8_t *out, size_t
 /* Reads a book and writes it to the front of out, with no area, and in *written how many bytes it has. Refuses the book as fit_open
    does, then with FIT_TOO_SHORT: so with out_length 0 that is the answer for every book that would open. */
 uint32_t fit_copy_book(const uint8_t *book, size_t book_length, uint8_t *out, size_t out_length, uint32_t *written);
+
+/* Stores a book, with no area: writes to the front of out the book with its variables first, in their old order, then its other terms in
+   theirs, arguments renumbered; and to the front of list, for each new number in turn, the old one, as numbers of the same form and
+   nothing else. Gives in *written how many bytes the book has, in *list_written how many the list. The stored book opens; it can be longer
+   than the book (603 bytes became 753), whose length is therefore not enough for out. Refuses the book as fit_open does, then with
+   FIT_TOO_SHORT where either output is too short: neither is written then. */
+uint32_t fit_store_book(const uint8_t *book, size_t book_length, uint8_t *out, size_t out_length, uint8_t *list, size_t list_length,
+                        uint32_t *written, uint32_t *list_written);
+
+/* Restores a book, with no area: writes to the front of out the book in which each term of the given one has its old number, which is
+   the number that the list has in its place, arguments renumbered; and in *written how many bytes it has. From what fit_store_book wrote,
+   with the two lengths that it gave, these are the bytes of the book that was stored. Any other book that opens and list that names each
+   of its terms once will do, exactly where the restored book opens. Refuses the book as fit_open does; then the list, of which as many
+   numbers are read, one by one, as the book has terms, with FIT_CUT, FIT_BAD_NUMBER; after the last with FIT_LEFT_OVER; then with
+   FIT_NAMES_NOTHING where any of them is no term, FIT_NAMED_TWICE, FIT_NOT_LOWER (in the restored book), FIT_TOO_SHORT. The list of a
+   book without terms has length 0. */
+uint32_t fit_restore_book(const uint8_t *book, size_t book_length, const uint8_t *list, size_t list_length, uint8_t *out, size_t out_length,
+                          uint32_t *written);
 
 #ifdef __cplusplus
 }

@@ -1,23 +1,24 @@
-//! The times of the calls at 1,024 terms, through the C interface and in Rust on the same bytes: opening and copying a book, and
-//! the other five calls at 1,024 and at 2,048 entries. By hand: `tests/run bench`. A figure is the median of several runs and a run's
-//! the best of many rounds, in microseconds a call. The rows that are printed are those of docs/PERFORMANCE.md.
+//! The times of the calls at 1,024 terms, through the C interface and in Rust on the same bytes: opening, copying, storing and restoring
+//! a book, and the other five calls at 1,024 and at 2,048 entries. By hand: `tests/run bench`. A figure is the median of several runs
+//! and a run's the best of many rounds, in microseconds a call. The rows that are printed are those of docs/PERFORMANCE.md.
 
 mod bases;
 mod damage;
 mod fit;
 mod lean;
 mod library;
+mod lists;
 mod reference;
 mod timing;
 
 use bases::Base;
-use reference::{perform, Answer, Call, Perform, Random, Term, OFFICE};
+use reference::{perform, restore_book, store_book, stored_bytes, Answer, Call, Perform, Random, Restore, Store, Term, OFFICE};
 use std::hint::black_box;
 
 const RUNS: usize = 5;
 const ROUNDS: usize = 30;
 const CALLS: usize = 50;
-/// How often lean.rs is first compared with the second implementation on areas of which most are damaged.
+/// How often lean.rs is first compared with the second implementation on areas of which most are damaged, and on books and lists.
 const COMPARED: usize = 4000;
 /// No report is longer.
 const LONGEST_REPORT: usize = 47_620;
@@ -81,6 +82,21 @@ fn copy_row(book: &[u8]) {
     row("decoding and encoding", &[], book.len(), [&ours, &lean, &plain]);
 }
 
+/// Storing, with the output for the list in the place of an area.
+fn store_row(book: &[u8]) {
+    let (stored, list) = stored_bytes(OFFICE, book).unwrap();
+    let [ours, lean, plain] = [library::store_book, lean::store_book, store_book as Store]
+        .map(|store| move |list: &mut [u8], out: &mut [u8]| store(OFFICE, book, out, list));
+    row("storing", &vec![0; list.len()], stored.len(), [&ours, &lean, &plain]);
+}
+
+fn restore_row(book: &[u8]) {
+    let (stored, list) = &stored_bytes(OFFICE, book).unwrap();
+    let [ours, lean, plain] = [library::restore_book, lean::restore_book, restore_book as Restore]
+        .map(|restore| move |_: &mut [u8], out: &mut [u8]| restore(OFFICE, stored, list, out));
+    row("restoring", &[], book.len(), [&ours, &lean, &plain]);
+}
+
 /// The calls on a table that is nearly full; reading an entry takes the time of the test of an area. Of the choices of a constant,
 /// the one that turns the most entries is measured.
 fn table_rows(base: &Base) {
@@ -114,6 +130,27 @@ fn compare_lean() {
     }
 }
 
+/// The same of storing and restoring, on books and lists of which many are damaged.
+fn compare_lean_archive() {
+    let mut random = Random(COMPARED as u64);
+    for _ in 0..COMPARED {
+        let terms = lists::random_terms(&mut random);
+        let mut book = reference::encode(&terms);
+        if random.below(4) == 0 {
+            lists::blemish(&mut random, &mut book);
+        }
+        let numbers = lists::random_list(&mut random, &terms);
+        let list = lists::list_bytes(&mut random, &numbers);
+        let (length, list_length) = (random.place(2 * book.len() + 2), random.place(2 * list.len() + 2));
+        let [lean, plain] = [lean::store_book, store_book as Store]
+            .map(|store| result(&|list, out| store(OFFICE, &book, out, list), &vec![0; list_length], length));
+        assert!(lean == plain, "storing: Rust on rows differs");
+        let [lean, plain] = [lean::restore_book, restore_book as Restore]
+            .map(|restore| result(&|_, out| restore(OFFICE, &book, &list, out), &[], length));
+        assert!(lean == plain, "restoring: Rust on rows differs");
+    }
+}
+
 /// One count for each symbol: a table of symbols against a look back, on a book of symbols that are all different.
 fn show_look_back() {
     let symbols: Vec<Term> = (0..1024).map(|symbol| Term::Application { symbol, arguments: vec![] }).collect();
@@ -127,6 +164,7 @@ fn show_look_back() {
 
 fn main() {
     compare_lean();
+    compare_lean_archive();
     let book = reference::encode(&reference::random_book(&mut Random(1024), 1024));
     println!("a random book of 1,024 terms, {} bytes", book.len());
     for capacity in [1u32, 1024] {
@@ -134,6 +172,8 @@ fn main() {
         call_row(&format!("opening at capacity {capacity} ({} bytes written)", start.len()), &start, Call::Open { capacity, book: &book });
     }
     copy_row(&book);
+    store_row(&book);
+    restore_row(&book);
     println!("1,024 terms, 896 of them over eight arguments, and a table that is nearly full");
     for capacity in [1024, 2048] {
         table_rows(&bases::measured(&mut Random(1024), 1024, capacity));

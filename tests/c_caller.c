@@ -1,4 +1,4 @@
-/* The C interface as a C program meets it, through include/fit.h: the ten samples of docs/SPEC.md, every refusal of every call, and
+/* The C interface as a C program meets it, through include/fit.h: the samples of docs/SPEC.md, every refusal of every call, and
    each number of the header against the library or the definitions. What is lent lies between guard bytes. An accepted call may
    write its part alone, a refused one no byte, and every number that a refused call answers is 0. Prints how many tests passed. */
 #include "fit.h"
@@ -59,6 +59,7 @@ struct book {
 };
 
 #define BYTES(...) {(const uint8_t[]){__VA_ARGS__}, sizeof((const uint8_t[]){__VA_ARGS__})}
+#define NO_BYTES {(const uint8_t *)"", 0}
 
 /* Makes a call: a and b are its two numbers, or the capacity. */
 static uint32_t make(enum name name, const struct book *book, uint32_t a, uint32_t b, size_t area_length, size_t out_length)
@@ -314,28 +315,39 @@ static void test_unsound(void)
     }
 }
 
-/* A book that is written here: so many variables, and behind them a term of a symbol over so many of the first of them. */
-static uint8_t written[8 + FIT_MAX_TERMS + FIT_MAX_ARGUMENTS];
+/* Bytes that are made here, number by number. */
+struct made {
+    uint8_t bytes[FIT_BOOK_BYTES];
+    size_t length;
+};
 
-static size_t put_number(size_t at, uint32_t n)
+static void put_number(struct made *made, uint32_t n)
 {
     for (; n > 127; n /= 128)
-        written[at++] = (uint8_t)(n % 128 + 128);
-    written[at++] = (uint8_t)n;
-    return at;
+        made->bytes[made->length++] = (uint8_t)(n % 128 + 128);
+    made->bytes[made->length++] = (uint8_t)n;
 }
 
+static struct book all_of(const struct made *made)
+{
+    struct book book = {made->bytes, made->length};
+    return book;
+}
+
+/* A book of so many variables, and behind them a term of a symbol over so many of the first of them. */
 static struct book book_of(uint32_t variables, uint32_t symbol, uint32_t count)
 {
-    struct book book = {written, 0};
+    static struct made made;
     uint32_t i;
-    book.length = put_number(0, variables + 1);
+    made.length = 0;
+    put_number(&made, variables + 1);
     for (i = 0; i < variables; i++)
-        book.length = put_number(book.length, 0);
-    book.length = put_number(put_number(book.length, symbol + 1), count);
+        put_number(&made, 0);
+    put_number(&made, symbol + 1);
+    put_number(&made, count);
     for (i = 0; i < count; i++)
-        book.length = put_number(book.length, i);
-    return book;
+        put_number(&made, i);
+    return all_of(&made);
 }
 
 static int refuses_book(uint32_t variables, uint32_t symbol, uint32_t count)
@@ -367,6 +379,232 @@ static void test_limits(void)
         && fit_area_length(FIT_MAX_CAPACITY) == 160784 && fit_area_length(4294967295u) == 0);
 }
 
+/* STORING AND RESTORING, which use no area. What is read lies between guard bytes too, so that it is seen to stay. */
+static struct lent given, list;
+
+static const struct book no_bytes = NO_BYTES;
+
+/* Fills a store, with these bytes at the front of what is lent. */
+static void fill(struct lent *b, const struct book *bytes)
+{
+    memset(b->store, FILLING, sizeof b->store);
+    memcpy(bytes_of(b), bytes->bytes, bytes->length);
+    memcpy(b->before, b->store, sizeof b->store);
+}
+
+static uint32_t store(const struct book *book, size_t out_length, size_t list_length)
+{
+    fill(&given, book);
+    fill(&out, &no_bytes);
+    fill(&list, &no_bytes);
+    memset(guarded, FILLING, sizeof guarded);
+    return fit_store_book(bytes_of(&given), book->length, bytes_of(&out), out_length, bytes_of(&list), list_length, &numbers[0], &numbers[1]);
+}
+
+static uint32_t restore(const struct book *book, const struct book *listed, size_t out_length)
+{
+    fill(&given, book);
+    fill(&list, listed);
+    fill(&out, &no_bytes);
+    memset(guarded, FILLING, sizeof guarded);
+    return fit_restore_book(bytes_of(&given), book->length, bytes_of(&list), listed->length, bytes_of(&out), out_length, &numbers[0]);
+}
+
+/* Refused with this number, zeros for all else, and no byte changed. */
+static int refuses_to_store(uint32_t refusal, const struct book *book, size_t out_length, size_t list_length)
+{
+    return store(book, out_length, list_length) == refusal && numbers_are(zeros, 2) && kept_after(&given, 0) && kept_after(&out, 0)
+        && kept_after(&list, 0);
+}
+
+static int refuses_to_restore(uint32_t refusal, const struct book *book, const struct book *listed, size_t out_length)
+{
+    return restore(book, listed, out_length) == refusal && numbers_are(zeros, 1) && kept_after(&given, 0) && kept_after(&list, 0)
+        && kept_after(&out, 0);
+}
+
+/* Accepted: these bytes, their lengths, and nothing behind them changed. */
+static int stores(const struct book *book, const struct book *stored, const struct book *listed, size_t out_length, size_t list_length)
+{
+    const uint32_t lengths[] = {(uint32_t)stored->length, (uint32_t)listed->length};
+    return store(book, out_length, list_length) == FIT_OK && numbers_are(lengths, 2) && kept_after(&given, 0)
+        && kept_after(&out, stored->length) && kept_after(&list, listed->length)
+        && memcmp(bytes_of(&out), stored->bytes, stored->length) == 0 && memcmp(bytes_of(&list), listed->bytes, listed->length) == 0;
+}
+
+static int restores(const struct book *book, const struct book *listed, const struct book *restored, size_t out_length)
+{
+    const uint32_t length = (uint32_t)restored->length;
+    return restore(book, listed, out_length) == FIT_OK && numbers_are(&length, 1) && kept_after(&given, 0) && kept_after(&list, 0)
+        && kept_after(&out, length) && memcmp(bytes_of(&out), restored->bytes, length) == 0;
+}
+
+/* The book is stored as these bytes, and restored from them: in outputs of just their lengths, in longer ones and in those that always
+   suffice, and in none where one is shorter. */
+static int stored_and_restored(const struct book *book, const struct book *stored, const struct book *listed)
+{
+    size_t length;
+    int holds = stores(book, stored, listed, stored->length, listed->length) && stores(book, stored, listed, stored->length + 1, listed->length)
+        && stores(book, stored, listed, stored->length, listed->length + 3)
+        && stores(book, stored, listed, FIT_BOOK_BYTES, FIT_LIST_BYTES) && restores(stored, listed, book, book->length)
+        && restores(stored, listed, book, book->length + 1) && restores(stored, listed, book, FIT_BOOK_BYTES);
+    for (length = 0; length < stored->length; length++)
+        holds = holds && refuses_to_store(FIT_TOO_SHORT, book, length, listed->length);
+    for (length = 0; length < listed->length; length++)
+        holds = holds && refuses_to_store(FIT_TOO_SHORT, book, stored->length, length) && refuses_to_store(FIT_TOO_SHORT, book, 0, length);
+    for (length = 0; length < book->length; length++)
+        holds = holds && refuses_to_restore(FIT_TOO_SHORT, stored, listed, length);
+    return holds;
+}
+
+static const struct {
+    struct book book, stored, listed;
+} archive_samples[] = {
+    {BYTES(4, 1, 0, 2, 1, 0, 0, 3, 2, 1, 2), BYTES(4, 0, 1, 0, 2, 1, 1, 3, 2, 2, 0), BYTES(2, 0, 1, 3)}, /* three terms in a ring */
+    {BYTES(5, 0, 4, 0, 0, 2, 1, 2, 0), BYTES(5, 0, 0, 0, 4, 0, 2, 1, 1), BYTES(0, 2, 4, 1, 3)},          /* three variables, two others */
+    {BOOK_A, BOOK_A, BYTES(0, 1, 2, 3, 4, 5)},                                                           /* variables first already */
+    {BYTES(2, 0, 0), BYTES(2, 0, 0), BYTES(0, 1)},
+    {BYTES(2, 1, 0, 2, 1, 0), BYTES(2, 1, 0, 2, 1, 0), BYTES(0, 1)}, /* no variables */
+    {BYTES(0), BYTES(0), NO_BYTES},                                  /* no terms: a list of no bytes, in an output of length 0 */
+};
+
+/* Lists of the book of a variable, a constant, and a symbol over that constant, which are refused, with an output of any length. */
+static const struct book three_terms = BYTES(3, 0, 1, 0, 2, 1, 1);
+
+static const struct {
+    struct book listed;
+    uint32_t refusal;
+} refused_lists[] = {
+    {NO_BYTES, FIT_CUT},
+    {BYTES(1, 0), FIT_CUT},
+    {BYTES(1, 0, 0x80), FIT_CUT}, /* within a number */
+    {BYTES(1, 0, 0x80, 0x80), FIT_CUT},
+    {BYTES(9, 9), FIT_CUT}, /* and no term */
+    {BYTES(1, 1), FIT_CUT}, /* and a term named twice */
+    {BYTES(1, 0, 0x80, 0x00), FIT_BAD_NUMBER},
+    {BYTES(1, 0, 0x80, 0x80, 0x80), FIT_BAD_NUMBER},
+    {BYTES(1, 0, 0x80, 0x80, 0x04), FIT_BAD_NUMBER},
+    {BYTES(0x80, 0x00), FIT_BAD_NUMBER},          /* before the end, which is too early */
+    {BYTES(9, 0x80, 0x00), FIT_BAD_NUMBER},       /* behind a number that is no term */
+    {BYTES(0x80, 0x00, 0, 2, 1), FIT_BAD_NUMBER}, /* and a number too many */
+    {BYTES(1, 1, 0x80, 0x00), FIT_BAD_NUMBER},    /* behind a term named twice */
+    {BYTES(1, 0, 2, 0), FIT_LEFT_OVER},
+    {BYTES(1, 0, 2, 0x80), FIT_LEFT_OVER},       /* half a number */
+    {BYTES(1, 0, 2, 0x80, 0x00), FIT_LEFT_OVER}, /* a bad number */
+    {BYTES(9, 9, 9, 9), FIT_LEFT_OVER},          /* and no term */
+    {BYTES(1, 1, 1, 1), FIT_LEFT_OVER},          /* and a term named twice */
+    {BYTES(0, 2, 1, 1), FIT_LEFT_OVER},          /* and an argument that would not be lower */
+    {BYTES(1, 0, 3), FIT_NAMES_NOTHING},
+    {BYTES(0xFF, 0xFF, 0x03, 0, 2), FIT_NAMES_NOTHING}, /* the largest number */
+    {BYTES(1, 1, 3), FIT_NAMES_NOTHING},                /* behind a term named twice */
+    {BYTES(1, 0, 1), FIT_NAMED_TWICE},
+    {BYTES(2, 2, 2), FIT_NAMED_TWICE},
+    {BYTES(2, 2, 0), FIT_NAMED_TWICE}, /* and an argument would not be lower */
+    {BYTES(0, 2, 1), FIT_NOT_LOWER},
+};
+
+/* The lists of that book that restore one. */
+static const struct {
+    struct book listed, restored;
+} accepted_lists[] = {
+    {BYTES(0, 1, 2), BYTES(3, 0, 1, 0, 2, 1, 1)},
+    {BYTES(1, 0, 2), BYTES(3, 1, 0, 0, 2, 1, 0)},
+    {BYTES(2, 0, 1), BYTES(3, 1, 0, 2, 1, 0, 0)},
+};
+
+/* What a list of three numbers from 0 to 3 is refused with: the constant takes its second number, the symbol over it the third. */
+static uint32_t refusal_of(const uint8_t n[3])
+{
+    if (n[0] == 3 || n[1] == 3 || n[2] == 3)
+        return FIT_NAMES_NOTHING;
+    if (n[0] == n[1] || n[0] == n[2] || n[1] == n[2])
+        return FIT_NAMED_TWICE;
+    return n[2] < n[1] ? FIT_NOT_LOWER : FIT_OK;
+}
+
+static int tries_all_lists(void)
+{
+    uint8_t bytes[3];
+    const struct book listed = {bytes, 3};
+    uint32_t i, refusal;
+    int holds = 1, accepted = 0;
+    for (i = 0; i < 64; i++) {
+        bytes[0] = (uint8_t)(i % 4);
+        bytes[1] = (uint8_t)(i / 4 % 4);
+        bytes[2] = (uint8_t)(i / 16);
+        refusal = refusal_of(bytes);
+        if (refusal == FIT_OK)
+            accepted += restore(&three_terms, &listed, MOST) == FIT_OK;
+        else
+            holds = holds && refuses_to_restore(refusal, &three_terms, &listed, MOST);
+    }
+    return holds && accepted == (int)COUNT(accepted_lists);
+}
+
+/* A constant, so many terms of a symbol over it alone, and so many variables; and what is stored for it, in which the number of the
+   constant is that of the variables. The book has the first of these lengths, what is stored the second, the list the third. */
+static int grows(uint32_t terms, uint32_t symbol, uint32_t count, uint32_t variables, const size_t lengths[3])
+{
+    static struct made made[3];
+    struct book book, stored, listed;
+    uint32_t i, k, total = 1 + terms + variables;
+    made[0].length = made[1].length = made[2].length = 0;
+    put_number(&made[0], total);
+    put_number(&made[1], total);
+    for (i = 0; i < variables; i++) {
+        put_number(&made[1], 0);
+        put_number(&made[2], 1 + terms + i);
+    }
+    for (k = 0; k < 2; k++) {
+        put_number(&made[k], 1);
+        put_number(&made[k], 0);
+    }
+    for (i = 0; i < terms * (count + 2); i++)
+        for (k = 0; k < 2; k++)
+            put_number(&made[k], i % (count + 2) == 0 ? symbol + 1 : i % (count + 2) == 1 ? count : k * variables);
+    for (i = 0; i < variables; i++)
+        put_number(&made[0], 0);
+    for (i = 0; i <= terms; i++)
+        put_number(&made[2], i);
+    book = all_of(&made[0]);
+    stored = all_of(&made[1]);
+    listed = all_of(&made[2]);
+    if (book.length != lengths[0] || stored.length != lengths[1] || listed.length != lengths[2])
+        return 0;
+    return stored_and_restored(&book, &stored, &listed);
+}
+
+static void test_archive(void)
+{
+    static const size_t grown[] = {603, 753, 472}, longest[] = {9977, 17137, 1920};
+    const struct book bad_list = BYTES(0x80, 0x00), half_a_number = BYTES(0x80), no_terms = BYTES(0);
+    const struct book *book;
+    size_t i;
+    for (i = 0; i < COUNT(archive_samples); i++)
+        test("stored and restored", i, stored_and_restored(&archive_samples[i].book, &archive_samples[i].stored, &archive_samples[i].listed));
+    /* a book's refusals come before the outputs' and the list's */
+    for (i = 0; i < COUNT(refused_books); i++) {
+        book = &refused_books[i].book;
+        test("refused by fit_store_book", i, refuses_to_store(refused_books[i].refusal, book, MOST, MOST)
+            && refuses_to_store(refused_books[i].refusal, book, 0, 0));
+        test("refused by fit_restore_book", i, refuses_to_restore(refused_books[i].refusal, book, &no_bytes, MOST)
+            && refuses_to_restore(refused_books[i].refusal, book, &bad_list, 0));
+    }
+    for (i = 0; i < COUNT(refused_lists); i++)
+        test("refused list", i, refuses_to_restore(refused_lists[i].refusal, &three_terms, &refused_lists[i].listed, MOST)
+            && refuses_to_restore(refused_lists[i].refusal, &three_terms, &refused_lists[i].listed, 0));
+    test("list of no terms", 0, refuses_to_restore(FIT_LEFT_OVER, &no_terms, &half_a_number, MOST));
+    for (i = 0; i < COUNT(accepted_lists); i++)
+        test("accepted list", i, restores(&three_terms, &accepted_lists[i].listed, &accepted_lists[i].restored, 7)
+            && restores(&three_terms, &accepted_lists[i].listed, &accepted_lists[i].restored, MOST)
+            && refuses_to_restore(FIT_TOO_SHORT, &three_terms, &accepted_lists[i].listed, 6));
+    test("every list", 0, tries_all_lists());
+    /* numbers of two bytes: 4 + 150 * 3 + 149 bytes, then 4 + 150 * 4 + 149, and 128 + 172 * 2 */
+    test("a longer book stored", 0, grows(150, 1, 1, 149, grown));
+    /* as many terms as can be: 4 + 895 * 11 + 128 bytes, then 4 + 895 * 19 + 128, and 128 + 896 * 2 */
+    test("a longer book stored", 1, grows(895, FIT_MAX_SYMBOL, FIT_MAX_ARGUMENTS, 128, longest));
+}
+
 /* The same numbers, and those that no call shows, are the definitions'. */
 static void test_definitions(void)
 {
@@ -376,6 +614,7 @@ static void test_definitions(void)
     test("FIT_MAX_ARGUMENTS", 1, FIT_MAX_ARGUMENTS == DEFINED_maxArity);
     test("FIT_MAX_SYMBOL", 1, FIT_MAX_SYMBOL == DEFINED_maxSymbol);
     test("FIT_BOOK_BYTES", 0, FIT_BOOK_BYTES == DEFINED_longestBook);
+    test("FIT_LIST_BYTES", 0, FIT_LIST_BYTES == DEFINED_longestList);
     test("FIT_REPORT_BYTES", 0, FIT_REPORT_BYTES == DEFINED_longestReport);
     /* by a term for each entry and one for all else, so two places tell all */
     test("FIT_REPORT_BYTES_AT", 0, FIT_REPORT_BYTES_AT(FIT_MAX_CAPACITY) == DEFINED_longestReport
@@ -409,7 +648,7 @@ static void test_texts(void)
         "accepted",
         "the bytes end within a number, or before one",
         "a number not in shortest form, of more than three bytes, or above 65,535",
-        "bytes after the last term of the book",
+        "bytes after the last term of the book, or after the list",
         "a number of terms, a symbol, a count or a capacity out of range",
         "an argument that is not lower than its term",
         "a symbol with two counts",
@@ -420,6 +659,7 @@ static void test_texts(void)
         "more entries than the capacity",
         "a line too many",
         "an output that is too short",
+        "a list that names a term twice",
         "not a number of this interface",
     };
     uint32_t i;
@@ -437,6 +677,7 @@ int main(void)
     test_calls();
     test_unsound();
     test_limits();
+    test_archive();
     test_definitions();
     test_fields();
     test_texts();

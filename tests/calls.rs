@@ -4,16 +4,20 @@
 //! where the two differ. It counts what the lists were made of (census.rs), and fails where some kind of case never occurs.
 
 mod bases;
+#[macro_use]
+mod kinds;
 mod census;
 mod damage;
 #[cfg_attr(stand_in, path = "stand_in.rs")]
 mod fit;
+mod lent;
 mod library;
 mod reference;
 mod samples;
 
 use bases::Base;
 use census::{Census, Kind, Sight, EVERY_LENGTH};
+use lent::Lent;
 use reference::{decode, encode, first_seed, perform, times, Answer, Call, Random, Term, OFFICE};
 use samples::Tally;
 use std::thread;
@@ -32,36 +36,6 @@ const ORDER_EVERY: u64 = 8;
 const LENGTHS_EVERY: u64 = 4096;
 /// No report is longer.
 const LONGEST_REPORT: usize = 47_620;
-/// Bytes before and after what is lent to the library.
-const GUARD: [u8; 16] = [0xC3; 16];
-
-/// Bytes that are lent to the library, between guards.
-struct Lent(Vec<u8>);
-
-impl Lent {
-    fn new(bytes: &[u8]) -> Lent {
-        Lent([&GUARD, bytes, &GUARD].concat())
-    }
-
-    fn set(&mut self, bytes: &[u8]) {
-        self.0.clear();
-        for part in [&GUARD, bytes, &GUARD] {
-            self.0.extend_from_slice(part);
-        }
-    }
-
-    fn bytes(&mut self) -> &mut [u8] {
-        let end = self.0.len() - GUARD.len();
-        &mut self.0[GUARD.len()..end]
-    }
-
-    /// Whether these are the bytes, and the guards are as they were.
-    fn holds(&self, expected: &[u8]) -> bool {
-        let (before, rest) = self.0.split_at(GUARD.len());
-        let (bytes, after) = rest.split_at(rest.len() - GUARD.len());
-        bytes == expected && before == GUARD && after == GUARD
-    }
-}
 
 /// One area, in the library's hands and in those of the second implementation.
 struct Twins {

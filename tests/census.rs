@@ -26,18 +26,6 @@ fn number_of(call: Call) -> usize {
 /// Every output length below this one is tried.
 pub const EVERY_LENGTH: usize = 256;
 
-macro_rules! kinds {
-    ($($kind:ident, $what:literal;)*) => {
-        /// A kind of case.
-        #[derive(Clone, Copy)]
-        pub enum Kind {
-            $($kind),*
-        }
-
-        const KINDS: &[&str] = &[$($what),*];
-    };
-}
-
 kinds! {
     NoCapacity, "opening at capacity 0";
     CapacityAbove, "opening at a capacity above 2,048";

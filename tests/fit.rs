@@ -10,6 +10,27 @@ extern "C" {
     fn c_open(capacity: u32, book: *const u8, book_length: usize, area: *mut u8, area_length: usize) -> u32;
     #[link_name = "fit_copy_book"]
     fn c_copy_book(book: *const u8, book_length: usize, out: *mut u8, out_length: usize, written: *mut u32) -> u32;
+    #[link_name = "fit_store_book"]
+    fn c_store_book(
+        book: *const u8,
+        book_length: usize,
+        out: *mut u8,
+        out_length: usize,
+        list: *mut u8,
+        list_length: usize,
+        written: *mut u32,
+        list_written: *mut u32,
+    ) -> u32;
+    #[link_name = "fit_restore_book"]
+    fn c_restore_book(
+        book: *const u8,
+        book_length: usize,
+        list: *const u8,
+        list_length: usize,
+        out: *mut u8,
+        out_length: usize,
+        written: *mut u32,
+    ) -> u32;
     #[link_name = "fit_add"]
     fn c_add(area: *mut u8, area_length: usize, l: u32, r: u32, entry: *mut u32) -> u32;
     #[link_name = "fit_bind"]
@@ -32,6 +53,15 @@ pub fn open(capacity: u32, book: &[u8], area: &mut [u8]) -> u32 {
 
 pub fn copy_book(book: &[u8], out: &mut [u8], written: &mut u32) -> u32 {
     unsafe { c_copy_book(book.as_ptr(), book.len(), out.as_mut_ptr(), out.len(), written) }
+}
+
+pub fn store_book(book: &[u8], out: &mut [u8], list: &mut [u8], written: &mut u32, list_written: &mut u32) -> u32 {
+    let (out_length, list_length) = (out.len(), list.len());
+    unsafe { c_store_book(book.as_ptr(), book.len(), out.as_mut_ptr(), out_length, list.as_mut_ptr(), list_length, written, list_written) }
+}
+
+pub fn restore_book(book: &[u8], list: &[u8], out: &mut [u8], written: &mut u32) -> u32 {
+    unsafe { c_restore_book(book.as_ptr(), book.len(), list.as_ptr(), list.len(), out.as_mut_ptr(), out.len(), written) }
 }
 
 pub fn add(area: &mut [u8], l: u32, r: u32, entry: &mut u32) -> u32 {

@@ -3,13 +3,15 @@
 
 mod reference;
 
-use reference::{encode, random_book, Random};
+use reference::{encode, push_number, random_book, Random, Term};
 use std::{env, fs};
 
 const RANDOM: usize = 300;
 
 const BOOK_A: &[u8] = &[6, 0, 4, 0, 2, 1, 0, 2, 1, 1, 3, 2, 2, 0, 3, 2, 3, 1];
 const BOOK_B: &[u8] = &[5, 0, 0, 4, 0, 2, 1, 1, 2, 1, 2];
+/// A book in which three terms change places in a ring when it is stored.
+const RING: &[u8] = &[4, 1, 0, 2, 1, 0, 0, 3, 2, 1, 2];
 /// A call as three bytes: its number and two numbers.
 type Three = [u8; 3];
 const OPEN_AGAIN: Three = [0, 0, 0];
@@ -25,6 +27,16 @@ const fn bind(v: u8, t: u8) -> Three {
 
 const fn entry(i: u8) -> Three {
     [3, i, 0]
+}
+
+/// Into outputs of so many bytes.
+const fn store(out: u8, list: u8) -> Three {
+    [9, out, list]
+}
+
+/// By a list, into an output of so many bytes.
+fn restore(list: &[u8], out: u16) -> Vec<u8> {
+    [&wide(10, list.len() as u16, out)[..], list].concat()
 }
 
 /// A call with numbers of two bytes.
@@ -54,10 +66,66 @@ const SAMPLES: &[(&str, u16, &[u8], &[Three])] = &[
     ("damaged_header", 1024, BOOK_B, &[[7, 1, 6], REPORT, OPEN_AGAIN, REPORT]),
     ("damaged_term", 1024, BOOK_B, &[[7, 9, 5], REPORT]),
     ("cut", 1024, BOOK_B, &[[8, 16, 0]]),
+    ("stored", 1, RING, &[store(11, 4), store(12, 5), store(10, 4), store(11, 3)]),
+    ("nothing_stored", 1, &[0], &[store(1, 0), store(0, 0)]),
+    ("stored_refused", 1, &[0x01, 0x01, 0x01, 0x00], &[store(16, 16)]),
 ];
+
+/// Restorings from one book, its lists one after the other: each that restores it, and each refusal.
+const RESTORED: (&[u8], &[&[u8]]) = (
+    &[3, 0, 1, 0, 2, 1, 1],
+    &[&[0, 1, 2], &[1, 0, 2], &[2, 0, 1], &[1, 0], &[9, 0x80, 0], &[9, 9, 9, 9], &[1, 1, 3], &[2, 2, 0], &[0, 2, 1]],
+);
 
 fn input(capacity: u16, book: &[u8], calls: &[u8]) -> Vec<u8> {
     [&capacity.to_le_bytes()[..], &(book.len() as u16).to_le_bytes(), book, calls].concat()
+}
+
+/// A book that is longer when it is stored, a constant, 150 terms over it and 149 variables: 603 bytes become 753, with a list of 472.
+fn grown() -> Vec<u8> {
+    let constant = Term::Application { symbol: 0, arguments: vec![] };
+    let over = Term::Application { symbol: 1, arguments: vec![0] };
+    let book = encode(&[vec![constant], vec![over; 150], vec![Term::Variable; 149]].concat());
+    input(1, &book, &[wide(9, 603, 472), wide(9, 752, 472), wide(9, 753, 471), wide(9, 753, 472)].concat())
+}
+
+/// A random list by which the book restores another: each term's number in it is above those of its arguments.
+fn random_list(random: &mut Random, terms: &[Term]) -> Vec<u8> {
+    let mut places = vec![u32::MAX; terms.len()];
+    let mut next = 0;
+    while (next as usize) < terms.len() {
+        let t = random.place(terms.len());
+        let placed = |&a: &u32| places[a as usize] != u32::MAX;
+        let ready = match &terms[t] {
+            Term::Variable => true,
+            Term::Application { arguments, .. } => arguments.iter().all(placed),
+        };
+        if ready && places[t] == u32::MAX {
+            places[t] = next;
+            next += 1;
+        }
+    }
+    let mut bytes = Vec::new();
+    places.iter().for_each(|&place| push_number(&mut bytes, place));
+    bytes
+}
+
+/// A random book stored, and restored by random lists, some of them damaged.
+fn random_archive(random: &mut Random) -> Vec<u8> {
+    let most = random.pick(&[8, 30, 250]);
+    let count = random.place(most);
+    let terms = random_book(random, count);
+    let book = encode(&terms);
+    let mut calls = wide(9, random.place(2 * book.len()) as u16, random.place(2 * count + 1) as u16);
+    for _ in 0..4 {
+        let mut list = random_list(random, &terms);
+        if !list.is_empty() && random.below(2) == 0 {
+            let at = random.place(list.len());
+            list[at] = random.pick(&[0, 1, 127, 128, 255]);
+        }
+        calls.extend(restore(&list, random.place(2 * book.len()) as u16));
+    }
+    input(1, &book, &calls)
 }
 
 /// A random book and random calls, most of them lines and choices of its terms.
@@ -90,8 +158,15 @@ fn main() {
     for (name, capacity, book, calls) in SAMPLES {
         write(name, input(*capacity, book, &calls.concat()));
     }
+    let (book, lists) = RESTORED;
+    write("restored", input(1, book, &lists.iter().flat_map(|list| restore(list, 7)).collect::<Vec<u8>>()));
+    write("nothing_restored", input(1, &[0], &[restore(&[], 1), restore(&[0], 1), restore(&[], 0)].concat()));
+    write("grown", grown());
     let mut random = Random(RANDOM as u64);
     for i in 0..RANDOM {
         write(&format!("random_{i}"), random_input(&mut random));
+    }
+    for i in 0..RANDOM / 3 {
+        write(&format!("archive_{i}"), random_archive(&mut random));
     }
 }

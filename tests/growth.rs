@@ -11,13 +11,13 @@ mod reference;
 mod timing;
 
 use bases::Base;
-use reference::{perform, Answer, Call, Perform, Random, OFFICE};
+use reference::{perform, stored_bytes, Answer, Call, Perform, Random, Restore, Store, OFFICE};
 use std::fmt::Write;
 use std::hint::black_box;
 
 const SIZES: [u32; 4] = [16, 64, 256, 1024];
-const CALLS: [&str; 6] = ["opening", "adding", "fixing", "reading an entry", "reporting", "writing"];
-const COLOURS: [&str; 6] = ["#1b6ca8", "#c8553d", "#2e8b57", "#8a5a9e", "#b8860b", "#444444"];
+const CALLS: [&str; 8] = ["opening", "adding", "fixing", "reading an entry", "reporting", "writing", "storing", "restoring"];
+const COLOURS: [&str; 8] = ["#1b6ca8", "#c8553d", "#2e8b57", "#8a5a9e", "#b8860b", "#444444", "#17a2a2", "#d6568f"];
 /// The two implementations are timed in turn, so that a slow moment of the machine falls on both.
 const TURNS: usize = 4;
 const ROUNDS: usize = 10;
@@ -41,33 +41,51 @@ fn steps(base: &Base) -> (Option<Call<'static>>, Option<Call<'static>>) {
     (choice, lines.into_iter().find(|&call| answer(call).refusal == 0))
 }
 
-/// The best times of a call by the library and by Rust on rows, which accept it and leave the same.
-fn times(base: &Base, call: Call) -> [f64; 2] {
-    let both = [library::perform as Perform, lean::perform];
-    let results = both.map(|perform| {
-        let (mut area, mut out) = (base.area.clone(), vec![0; LONGEST_REPORT]);
-        (perform(OFFICE, call, &mut area, &mut out), area, out)
+/// The best times of a call on an area and an output by the library and by Rust on rows, which accept it and leave the same.
+fn times<W: Fn(&mut [u8], &mut [u8]) -> Answer>(what: &str, start: &[u8], both: [W; 2]) -> [f64; 2] {
+    let results = both.each_ref().map(|work| {
+        let (mut area, mut out) = (start.to_vec(), vec![0; LONGEST_REPORT]);
+        (work(&mut area, &mut out), area, out)
     });
-    assert_eq!(results[0].0.refusal, 0, "a measured call is refused");
-    assert!(results[0] == results[1], "{call:?}: Rust on rows differs");
+    assert_eq!(results[0].0.refusal, 0, "{what} is refused");
+    assert!(results[0] == results[1], "{what}: Rust on rows differs");
     let mut out = vec![0; LONGEST_REPORT];
     let mut least = [f64::INFINITY; 2];
     for turn in 0..2 * TURNS {
-        let time = best(&base.area, |area| {
-            let answer: Answer = both[turn % 2](OFFICE, call, area, black_box(&mut out));
-            black_box(answer);
+        let time = best(start, |area| {
+            black_box(both[turn % 2](area, black_box(&mut out)));
         });
         least[turn % 2] = time.min(least[turn % 2]);
     }
     least
 }
 
-/// The times of the six calls on a base, as far as they are accepted there.
-fn all_times(base: &Base) -> [Option<[f64; 2]>; 6] {
+/// The times of a call on the area of a base.
+fn call_times(base: &Base, call: Call) -> [f64; 2] {
+    let both = [library::perform as Perform, lean::perform];
+    times(&format!("{call:?}"), &base.area, both.map(|perform| move |area: &mut [u8], out: &mut [u8]| perform(OFFICE, call, area, out)))
+}
+
+/// The times of storing a book, with the output for the list in the place of an area, and of restoring it.
+fn archive_times(book: &[u8]) -> [[f64; 2]; 2] {
+    let (stored, list) = &stored_bytes(OFFICE, book).unwrap();
+    let stores = [library::store_book as Store, lean::store_book];
+    let restores = [library::restore_book as Restore, lean::restore_book];
+    [
+        times("storing", &vec![0; list.len()], stores.map(|store| move |list: &mut [u8], out: &mut [u8]| store(OFFICE, book, out, list))),
+        times("restoring", &[], restores.map(|restore| move |_: &mut [u8], out: &mut [u8]| restore(OFFICE, stored, list, out))),
+    ]
+}
+
+/// The times of all calls on a base and its book, as far as they are accepted there.
+fn all_times(base: &Base) -> [Option<[f64; 2]>; CALLS.len()] {
     let (choice, line) = steps(base);
     let open = Call::Open { capacity: base.capacity, book: &base.book };
     let entry = (base.area[8..12] != [0; 4]).then_some(Call::Entry { i: 0 });
-    [Some(open), line, choice, entry, Some(Call::Report), Some(Call::Write)].map(|call| call.map(|call| times(base, call)))
+    let [opening, adding, fixing, reading, reporting, writing] =
+        [Some(open), line, choice, entry, Some(Call::Report), Some(Call::Write)].map(|call| call.map(|call| call_times(base, call)));
+    let [storing, restoring] = archive_times(&base.book).map(Some);
+    [opening, adding, fixing, reading, reporting, writing, storing, restoring]
 }
 
 /// The times to copy the area's bytes once, and to read each of its words once.
@@ -90,7 +108,7 @@ fn shown(times: Option<[f64; 2]>) -> String {
 }
 
 /// Prints the row of a base, and gives the library's times.
-fn row(what: &str, base: &Base) -> [Option<f64>; 6] {
+fn row(what: &str, base: &Base) -> [Option<f64>; CALLS.len()] {
     let (times, [copied, read]) = (all_times(base), passes(base));
     let word = |i: usize| u32::from_le_bytes(base.area[4 * i..4 * i + 4].try_into().unwrap());
     print!("| {what} | {} | {} |", word(1), word(2));
@@ -108,7 +126,7 @@ fn point(terms: u32, time: f64) -> (f64, f64) {
     (70.0 + 480.0 * across, 370.0 - 340.0 * up)
 }
 
-fn plot(rows: &[[Option<f64>; 6]]) -> String {
+fn plot(rows: &[[Option<f64>; CALLS.len()]]) -> String {
     let mut svg = String::from("<svg xmlns=\"http://www.w3.org/2000/svg\" width=\"720\" height=\"420\" font-family=\"sans-serif\" font-size=\"12\">\n");
     svg.push_str("<rect width=\"720\" height=\"420\" fill=\"white\"/>\n");
     for terms in SIZES {
@@ -133,7 +151,7 @@ fn plot(rows: &[[Option<f64>; 6]]) -> String {
 fn main() {
     println!("| | terms | entries | {} | copying the area | reading its words |", CALLS.join(" | "));
     println!("|---|---|---|{}", "---|".repeat(CALLS.len() + 2));
-    let rows: Vec<[Option<f64>; 6]> = SIZES.iter().map(|&terms| row("two entries a term", &bases::measured(&mut Random(1024), terms, 2 * terms))).collect();
+    let rows: Vec<[Option<f64>; CALLS.len()]> = SIZES.iter().map(|&terms| row("two entries a term", &bases::measured(&mut Random(1024), terms, 2 * terms))).collect();
     print!("| times a doubling, at most | | |");
     for call in 0..CALLS.len() {
         let steepest = rows.windows(2).filter_map(|pair| Some((pair[1][call]? / pair[0][call]?).sqrt())).fold(0.0, f64::max);

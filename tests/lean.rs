@@ -1,9 +1,10 @@
 //! The calls in plain Rust as the proved code does them, on rows of words and with no allocation: what the proved code is measured
-//! against. Here are opening and copying a book; lean/calls.rs has the calls on an opened area.
+//! against. Here are opening and copying a book; lean/calls.rs has the calls on an opened area, lean/archive.rs storing and restoring.
 
 // Each program uses a part.
 #![allow(dead_code)]
 
+mod archive;
 mod area;
 mod calls;
 
@@ -152,7 +153,19 @@ pub fn copy(book: &[u8], out: &mut [u8]) -> (u32, u32) {
     }
 }
 
-/// A call, in the form of the second implementation's.
+/// Storing, in the form of the second implementation's.
+pub fn store_book(_: Limits, book: &[u8], out: &mut [u8], list: &mut [u8]) -> Answer {
+    let (refusal, written, list_written) = archive::store(book, out, list);
+    Answer::new(refusal, &[written, list_written])
+}
+
+/// Restoring, in that form.
+pub fn restore_book(_: Limits, book: &[u8], list: &[u8], out: &mut [u8]) -> Answer {
+    let (refusal, written) = archive::restore(book, list, out);
+    Answer::new(refusal, &[written])
+}
+
+/// A call on an area, in that form.
 pub fn perform(_: Limits, call: Call, area: &mut [u8], out: &mut [u8]) -> Answer {
     let (refusal, numbers) = match call {
         Call::Open { capacity, book } => (open::<false>(capacity, book, area), [0, 0]),

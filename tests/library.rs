@@ -1,4 +1,7 @@
-//! A call through the C interface, in the form of the second implementation's.
+//! The calls through the C interface, in the form of the second implementation's.
+
+// Each program uses a part.
+#![allow(dead_code)]
 
 use crate::fit;
 use crate::reference::{Answer, Call, Limits};
@@ -32,4 +35,16 @@ pub fn perform(_: Limits, call: Call, area: &mut [u8], out: &mut [u8]) -> Answer
             Answer::new(refusal, &[first])
         }
     }
+}
+
+pub fn store_book(_: Limits, book: &[u8], out: &mut [u8], list: &mut [u8]) -> Answer {
+    let (mut written, mut list_written) = (UNSET, UNSET);
+    let refusal = fit::store_book(book, out, list, &mut written, &mut list_written);
+    Answer::new(refusal, &[written, list_written])
+}
+
+pub fn restore_book(_: Limits, book: &[u8], list: &[u8], out: &mut [u8]) -> Answer {
+    let mut written = UNSET;
+    let refusal = fit::restore_book(book, list, out, &mut written);
+    Answer::new(refusal, &[written])
 }

@@ -1,6 +1,10 @@
-//! The worked samples of docs/SPEC.md and the example of docs/LAYOUT.md, for any implementation of the six calls.
+//! The worked samples of docs/SPEC.md and the example of docs/LAYOUT.md, for any implementation of the six calls; those of storing and
+//! restoring, for any implementation of these.
 
-use crate::reference::{Answer, Call, Limits, Perform};
+// Each program uses a part.
+#![allow(dead_code)]
+
+use crate::reference::{encode, Answer, Call, Limits, Perform, Restore, Store, Term};
 
 const BOOK_A: &[u8] = &[6, 0, 4, 0, 2, 1, 0, 2, 1, 1, 3, 2, 2, 0, 3, 2, 3, 1];
 const BOOK_B: &[u8] = &[5, 0, 0, 4, 0, 2, 1, 1, 2, 1, 2];
@@ -312,4 +316,104 @@ fn sorted(parts: &[&[(usize, u32)]]) -> Vec<(usize, u32)> {
     let mut all = parts.concat();
     all.sort_unstable();
     all
+}
+
+/// The book in which three terms change places in a ring, as it is and as it is stored, and its list.
+const RING: (&[u8], &[u8], &[u8]) = (&[4, 1, 0, 2, 1, 0, 0, 3, 2, 1, 2], &[4, 0, 1, 0, 2, 1, 1, 3, 2, 2, 0], &[2, 0, 1, 3]);
+const NO_TERMS: (&[u8], &[u8], &[u8]) = (&[0], &[0], &[]);
+
+/// A variable, symbol 0 and symbol 1 over it; lists that are refused with it where the output has 6 bytes, and with what.
+const LISTED: &[u8] = &[3, 0, 1, 0, 2, 1, 1];
+const REFUSED_LISTS: &[(&[u8], u32)] = &[
+    (&[0x09, 0x09], 1),
+    (&[0x09, 0x80, 0x00], 2),
+    (&[0x09, 0x09, 0x09, 0x09], 3),
+    (&[0x01, 0x00, 0x02, 0x80], 3),
+    (&[0x01, 0x01, 0x03], 8),
+    (&[0x02, 0x02, 0x00], 14),
+    (&[0x00, 0x02, 0x01], 5),
+    (&[0x01, 0x00, 0x02], 13),
+];
+
+/// The samples of storing and restoring.
+pub fn run_archive(limits: Limits, store: Store, restore: Restore, tally: &mut Tally) {
+    let subject = Archive { limits, store, restore };
+    for (what, sample) in [("the ring", RING), ("the book without terms", NO_TERMS)] {
+        tally.test(&format!("{what} is stored"), subject.stores(sample));
+        tally.test(&format!("{what} is restored"), subject.restores(sample.1, sample.2, sample.0));
+    }
+    for (book, refusal) in REFUSED_BOOKS {
+        tally.test(&format!("book {book:02X?} is refused with {refusal} in the archive"), subject.refuses_book(book, *refusal));
+    }
+    for (list, refusal) in REFUSED_LISTS {
+        tally.test(&format!("list {list:02X?} is refused with {refusal}"), subject.refuses(LISTED, list, *refusal));
+    }
+    tally.test("a list that is no stored book's restores", subject.restores(LISTED, &[1, 0, 2], &[3, 1, 0, 0, 2, 1, 0]));
+    tally.test("a list of a byte with the book without terms is refused with 3", subject.refuses(&[0], &[0], 3));
+    tally.test("a stored book can be longer", subject.stores_longer());
+}
+
+struct Archive {
+    limits: Limits,
+    store: Store,
+    restore: Restore,
+}
+
+impl Archive {
+    /// The book is stored as this book with this list, where both outputs are long enough.
+    fn stores(&self, (book, stored, list): (&[u8], &[u8], &[u8])) -> bool {
+        let lengths = (0..stored.len() + 3).flat_map(|m| (0..list.len() + 3).map(move |n| (m, n)));
+        lengths.into_iter().all(|(m, n)| {
+            let [mut out, mut list_out] = [vec![FILLING; m], vec![FILLING; n]];
+            let answer = (self.store)(self.limits, book, &mut out, &mut list_out);
+            if m < stored.len() || n < list.len() {
+                return answer == Answer::new(13, &[]) && out == vec![FILLING; m] && list_out == vec![FILLING; n];
+            }
+            answer == Answer::new(0, &[stored.len() as u32, list.len() as u32]) && begins(&out, stored) && begins(&list_out, list)
+        })
+    }
+
+    /// Book and list restore this book, where the output is long enough.
+    fn restores(&self, book: &[u8], list: &[u8], restored: &[u8]) -> bool {
+        (0..restored.len() + 3).all(|length| {
+            let mut out = vec![FILLING; length];
+            let answer = (self.restore)(self.limits, book, list, &mut out);
+            if length < restored.len() {
+                return answer == Answer::new(13, &[]) && out == vec![FILLING; length];
+            }
+            answer == Answer::new(0, &[restored.len() as u32]) && begins(&out, restored)
+        })
+    }
+
+    /// Restoring into an output of 6 bytes is refused.
+    fn refuses(&self, book: &[u8], list: &[u8], refusal: u32) -> bool {
+        let mut out = [FILLING; 6];
+        (self.restore)(self.limits, book, list, &mut out) == Answer::new(refusal, &[]) && out == [FILLING; 6]
+    }
+
+    /// Both calls refuse the book, whatever its list and the outputs are.
+    fn refuses_book(&self, book: &[u8], refusal: u32) -> bool {
+        let stays = |length| {
+            let [mut out, mut list] = [vec![FILLING; length], vec![FILLING; length]];
+            let answer = (self.store)(self.limits, book, &mut out, &mut list);
+            answer == Answer::new(refusal, &[]) && [out, list] == [vec![FILLING; length], vec![FILLING; length]]
+        };
+        stays(0) && stays(20) && [&[][..], &[0x80, 0x00], &[0]].iter().all(|list| self.refuses(book, list, refusal))
+    }
+
+    /// A constant, 150 terms over it and 149 variables.
+    fn stores_longer(&self) -> bool {
+        let over = |symbol, arguments: &[u32]| Term::Application { symbol, arguments: arguments.to_vec() };
+        let terms = [vec![over(0, &[])], vec![over(1, &[0]); 150], vec![Term::Variable; 149]].concat();
+        let book = encode(&terms);
+        let [mut out, mut list] = [vec![FILLING; 753], vec![FILLING; 600]];
+        let answer = (self.store)(self.limits, &book, &mut out, &mut list);
+        let list_length = answer.numbers[1];
+        book.len() == 603 && answer == Answer::new(0, &[753, list_length]) && self.restores(&out, &list[..list_length as usize], &book)
+    }
+}
+
+/// Whether an output begins with these bytes, and the others are as they were.
+fn begins(out: &[u8], bytes: &[u8]) -> bool {
+    out.starts_with(bytes) && out[bytes.len()..].iter().all(|&byte| byte == FILLING)
 }

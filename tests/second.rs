@@ -1,8 +1,8 @@
-//! The second implementation behind one C function, for tests/fuzz.c.
+//! The second implementation behind C functions, for tests/fuzz.c.
 
 mod reference;
 
-use reference::{decode, encode, perform, Answer, Call, OFFICE};
+use reference::{decode, encode, perform, restore_book, store_book, Answer, Call, OFFICE};
 use std::slice::{from_raw_parts, from_raw_parts_mut};
 
 /// Bytes that C lends.
@@ -43,5 +43,33 @@ pub unsafe extern "C" fn second(name: u32, a: u32, b: u32, book: Bytes, area: By
         _ => copy(book, out),
     };
     from_raw_parts_mut(numbers, answer.numbers.len()).copy_from_slice(&answer.numbers);
+    answer.refusal
+}
+
+/// Stores a book: gives the refusal, and in `numbers` the two lengths.
+///
+/// # Safety
+/// The bytes are lent for the call and do not overlap, and there are two numbers.
+#[no_mangle]
+pub unsafe extern "C" fn second_store(book: Bytes, out: Bytes, list: Bytes, numbers: *mut u32) -> u32 {
+    let book = from_raw_parts(book.start, book.length);
+    let out = from_raw_parts_mut(out.start, out.length);
+    let list = from_raw_parts_mut(list.start, list.length);
+    let answer = store_book(OFFICE, book, out, list);
+    from_raw_parts_mut(numbers, 2).copy_from_slice(&answer.numbers[..2]);
+    answer.refusal
+}
+
+/// Restores a book: gives the refusal, and in `number` the length.
+///
+/// # Safety
+/// The bytes are lent for the call and do not overlap.
+#[no_mangle]
+pub unsafe extern "C" fn second_restore(book: Bytes, list: Bytes, out: Bytes, number: *mut u32) -> u32 {
+    let book = from_raw_parts(book.start, book.length);
+    let list = from_raw_parts(list.start, list.length);
+    let out = from_raw_parts_mut(out.start, out.length);
+    let answer = restore_book(OFFICE, book, list, out);
+    *number = answer.numbers[0];
     answer.refusal
 }

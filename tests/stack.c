@@ -1,7 +1,8 @@
 /* Measures the stack that each call needs: the call runs on a stack of its own that was filled with a pattern, and what it
    overwrote is counted. The areas are those with the deepest walks: terms that are each over the one before, and a variable bound to
-   the last; variables that are each bound to the next; and the same as a circle, which is refused. Then each call runs on a stack that is
-   too small, above a guard page and other memory: it ends at the guard page. By hand: `tests/run stack`. */
+   the last; variables that are each bound to the next; and the same as a circle, which is refused. The first two books are also stored and
+   restored, and a third, in which every term gets another number. Then each call runs on a stack that is too small, above a guard page
+   and other memory: it ends at the guard page. By hand: `tests/run stack`. */
 #include "fit.h"
 #include <pthread.h>
 #include <signal.h>
@@ -20,9 +21,9 @@
 #define PAGE 4096u
 #define PATTERN 0xA5
 
-static uint8_t book[3 * (2 + 10 * TERMS)], *area, out[FIT_REPORT_BYTES];
+static uint8_t book[3 * (2 + 10 * TERMS)], *area, out[FIT_REPORT_BYTES], stored[FIT_BOOK_BYTES], list[FIT_LIST_BYTES];
 static size_t book_length, area_length;
-static uint32_t refusal, first, second, fields[FIT_FIELDS];
+static uint32_t refusal, first, second, fields[FIT_FIELDS], stored_length, list_length;
 static uint32_t chosen = TERMS - 1; /* what variable 0 is bound to */
 
 static void number(uint32_t n)
@@ -58,9 +59,29 @@ static void make_variables(void)
         number(0);
 }
 
+/* The variables behind the others, which are each over the constant. */
+static void make_variables_last(void)
+{
+    book_length = 0;
+    number(TERMS);
+    number(1), number(0);
+    for (uint32_t t = 1; t < TERMS / 2; t++) {
+        number(FIT_MAX_SYMBOL + 1), number(FIT_MAX_ARGUMENTS);
+        for (int a = 0; a < FIT_MAX_ARGUMENTS; a++)
+            number(0);
+    }
+    for (uint32_t t = TERMS / 2; t < TERMS; t++)
+        number(0);
+}
+
 static void run_length(void) { refusal = fit_area_length(CAPACITY) != area_length; }
 static void run_open(void) { refusal = fit_open(CAPACITY, book, book_length, area, area_length); }
 static void run_copy(void) { refusal = fit_copy_book(book, book_length, out, sizeof out, &first); }
+static void run_store(void)
+{
+    refusal = fit_store_book(book, book_length, stored, sizeof stored, list, sizeof list, &stored_length, &list_length);
+}
+static void run_restore(void) { refusal = fit_restore_book(stored, stored_length, list, list_length, out, sizeof out, &first); }
 static void run_bind(void) { refusal = fit_bind(area, area_length, 0, chosen, &first, &second); }
 static void run_add(void) { refusal = fit_add(area, area_length, 0, TERMS - 1, &first); }
 static void run_entry(void) { refusal = fit_entry(area, area_length, 0, fields); }
@@ -142,11 +163,12 @@ static int ends_at_guard(void (*call)(void), size_t small)
 
 static int failed;
 
-enum { LENGTH, OPEN, COPY, BIND, ADD, ENTRY, REPORT, WRITE, CALLS };
+enum { LENGTH, OPEN, COPY, STORE, RESTORE, BIND, ADD, ENTRY, REPORT, WRITE, CALLS };
 
-static void (*const calls[CALLS])(void) = {run_length, run_open, run_copy, run_bind, run_add, run_entry, run_report, run_write};
-static const char *const names[CALLS] = {
-    "fit_area_length", "fit_open", "fit_copy_book", "fit_bind", "fit_add", "fit_entry", "fit_report", "fit_write"};
+static void (*const calls[CALLS])(void) = {
+    run_length, run_open, run_copy, run_store, run_restore, run_bind, run_add, run_entry, run_report, run_write};
+static const char *const names[CALLS] = {"fit_area_length", "fit_open", "fit_copy_book", "fit_store_book", "fit_restore_book",
+    "fit_bind", "fit_add", "fit_entry", "fit_report", "fit_write"};
 static size_t most[CALLS];
 
 /* Makes a call, with this answer, and keeps the most that it has needed. */
@@ -175,9 +197,12 @@ int main(void)
 {
     area_length = fit_area_length(CAPACITY);
     area = calloc(area_length, 1);
+    make_variables_last();
+    measure_from(STORE, RESTORE, FIT_OK); /* what was stored is restored */
     make_terms();
     measure_from(LENGTH, WRITE, FIT_OK);
     make_variables();
+    measure_from(STORE, RESTORE, FIT_OK);
     run_open();
     bind_from(1);
     chosen = 1;

@@ -4,12 +4,17 @@
 // Each program uses a part.
 #![allow(dead_code)]
 
-use crate::reference::{faults, perform, Answer, Call, Fault, OFFICE};
+use crate::reference::{are_distinct, arguments_are_lower, decode, decode_numbers, encode, encode_list, faults, perform, renumbered};
+use crate::reference::{restored_bytes, restored_terms, stored_bytes, stored_terms, Answer, Call, Fault, Term, OFFICE};
 use std::sync::OnceLock;
 
-fn is(name: &str) -> bool {
+fn mistake() -> &'static str {
     static MISTAKE: OnceLock<String> = OnceLock::new();
-    MISTAKE.get_or_init(|| std::env::var("MISTAKE").unwrap_or_default()) == name
+    MISTAKE.get_or_init(|| std::env::var("MISTAKE").unwrap_or_default())
+}
+
+fn is(name: &str) -> bool {
+    mistake() == name
 }
 
 /// The answer. An area is taken for sound where its only fault is the mistake, and a refusal 11 may leave a mark.
@@ -159,4 +164,125 @@ pub fn report(area: &[u8], out: &mut [u8], written: &mut u32) -> u32 {
 
 pub fn write(area: &[u8], out: &mut [u8], written: &mut u32) -> u32 {
     put(Call::Write, area, out, written)
+}
+
+/// Whether an output has room for some bytes; one that has just enough may be refused.
+fn fits(bytes: &[u8], out: &[u8], refused: &str) -> bool {
+    bytes.len() + usize::from(is(refused)) <= out.len()
+}
+
+/// Puts bytes that fit; the byte behind them may be lost.
+fn put_bytes(bytes: &[u8], out: &mut [u8], behind: &str) {
+    out[..bytes.len()].copy_from_slice(bytes);
+    if is(behind) && out.len() > bytes.len() {
+        out[bytes.len()] ^= 1;
+    }
+}
+
+/// The bytes of the stored book and of its list. Terms, arguments or the list may be the wrong ones.
+fn stored(book: &[u8]) -> Result<(Vec<u8>, Vec<u8>), u32> {
+    let (stored, list) = stored_bytes(OFFICE, book)?;
+    let terms = decode(OFFICE, book)?;
+    let count = terms.len() as u32;
+    let (numbers, _) = decode_numbers(terms.len(), &list)?;
+    let by = |numbers: &[u32]| (encode(&stored_terms(&terms, numbers)), encode_list(numbers));
+    let is_variable = |&&old: &&u32| terms[old as usize] == Term::Variable;
+    Ok(match mistake() {
+        "variables-left-in-place" => by(&(0..count).collect::<Vec<u32>>()),
+        "variables-in-falling-order" => {
+            let (variables, others): (Vec<u32>, Vec<u32>) = numbers.iter().partition(is_variable);
+            by(&variables.into_iter().rev().chain(others).collect::<Vec<u32>>())
+        }
+        "arguments-not-renumbered" => (encode(&numbers.iter().map(|&old| terms[old as usize].clone()).collect::<Vec<Term>>()), list),
+        "list-by-old-numbers" => {
+            let new_number = |old: u32| numbers.iter().position(|&number| number == old).unwrap() as u32;
+            (stored, encode_list(&(0..count).map(new_number).collect::<Vec<u32>>()))
+        }
+        "list-of-one-byte" => (stored, numbers.iter().map(|&old| old as u8).collect()),
+        "list-with-its-count" => (stored, [encode_list(&[count]), list].concat()),
+        _ => (stored, list),
+    })
+}
+
+/// Storing. One output alone may be tested or, though refused, written, and the numbers answered may be the wrong ones.
+pub fn store_book(book: &[u8], out: &mut [u8], list: &mut [u8], written: &mut u32, list_written: &mut u32) -> u32 {
+    let put = |(stored, mut numbers): (Vec<u8>, Vec<u8>)| {
+        if is("one-output-tested") {
+            numbers.truncate(list.len());
+        }
+        let both = [fits(&stored, out, "just-enough-refused"), fits(&numbers, list, "just-enough-list-refused")];
+        match both {
+            [true, true] => {
+                put_bytes(&stored, out, "byte-behind");
+                put_bytes(&numbers, list, "byte-behind-list");
+                return Ok((stored.len() as u32, numbers.len() as u32));
+            }
+            [true, false] if is("book-written-without-list") => put_bytes(&stored, out, ""),
+            [false, true] if is("list-written-without-book") => put_bytes(&numbers, list, ""),
+            _ => {}
+        }
+        Err(13)
+    };
+    match stored(book).and_then(put) {
+        Ok((first, second)) => {
+            (*written, *list_written) = if is("answers-in-exchange") { (second, first) } else { (first, second) };
+            0
+        }
+        Err(refusal) => {
+            *written = 0;
+            if !is("list-number-not-zeroed") {
+                *list_written = 0;
+            }
+            refusal
+        }
+    }
+}
+
+/// The bytes of the restored book. A test of the list may come too early or too late, or be left out, and the list may be taken for
+/// another.
+fn restored(book: &[u8], list: &[u8], room: usize) -> Result<Vec<u8>, u32> {
+    let right = restored_bytes(OFFICE, book, list);
+    let Ok(terms) = decode(OFFICE, book) else {
+        return right;
+    };
+    let count = terms.len();
+    let names_nothing = |numbers: &[u32]| numbers.iter().any(|&number| number as usize >= count);
+    let Ok((numbers, rest)) = decode_numbers(count, list) else {
+        let numbers_before = (0..count).map_while(|k| decode_numbers(k, list).ok()).last();
+        let early = is("8-as-read") && numbers_before.is_some_and(|(numbers, _)| names_nothing(&numbers));
+        return if early { Err(8) } else { right };
+    };
+    match (right, mistake()) {
+        (Err(3), "3-after-8") if names_nothing(&numbers) => Err(8),
+        (Err(3), "3-untested") => restored_bytes(OFFICE, book, &list[..list.len() - rest.len()]),
+        (Err(8), "14-before-8") if !are_distinct(&numbers) => Err(14),
+        (Err(14), "5-before-14") if !arguments_are_lower(&terms, &numbers) => Err(5),
+        (Err(14), "8-for-14") => Err(8),
+        (Err(5), "13-before-5") if room < encode(&restored_terms(&terms, &numbers)).len() => Err(13),
+        (Err(5), "last-term-untested") if arguments_are_lower(&terms[..count - 1], &numbers) => Ok(encode(&restored_terms(&terms, &numbers))),
+        (Err(5), "5-untested") => Ok(encode(&restored_terms(&terms, &numbers))),
+        (Ok(_), "restored-as-stored") => Ok(encode(&stored_terms(&terms, &numbers))),
+        (Ok(_), "restored-arguments-left") => {
+            let same_argument = |argument: u32| numbers.iter().position(|&number| number == argument).unwrap() as u32;
+            let left: Vec<Term> = terms.iter().map(|term| renumbered(term, same_argument)).collect();
+            Ok(encode(&restored_terms(&left, &numbers)))
+        }
+        (right, _) => right,
+    }
+}
+
+pub fn restore_book(book: &[u8], list: &[u8], out: &mut [u8], written: &mut u32) -> u32 {
+    match restored(book, list, out.len()) {
+        Ok(bytes) if fits(&bytes, out, "just-enough-restored-refused") => {
+            put_bytes(&bytes, out, "byte-behind-restored");
+            *written = bytes.len() as u32;
+            0
+        }
+        refused => {
+            if !is("number-not-zeroed") {
+                *written = 0;
+            }
+            refused.err().unwrap_or(13)
+        }
+    }
 }

@@ -29,6 +29,14 @@ impl Answer {
         places[..numbers.len()].copy_from_slice(numbers);
         Answer { refusal, numbers: places }
     }
+
+    /// The answer of a call that gave these numbers, or this refusal.
+    pub fn of(numbers: Result<Vec<u32>, u32>) -> Answer {
+        match numbers {
+            Ok(numbers) => Answer::new(0, &numbers),
+            Err(refusal) => Answer::new(refusal, &[]),
+        }
+    }
 }
 
 /// An implementation: it makes a call on an area and an output.
@@ -36,18 +44,14 @@ pub type Perform = fn(Limits, Call, &mut [u8], &mut [u8]) -> Answer;
 
 /// Makes a call: its answer, and the area and the output as it leaves them.
 pub fn perform(limits: Limits, call: Call, area: &mut [u8], out: &mut [u8]) -> Answer {
-    let numbers = match call {
+    Answer::of(match call {
         Call::Open { capacity, book } => open(limits, capacity, book, area).map(|()| vec![]),
         Call::Add { l, r } => add(limits, area, l, r).map(|entry| vec![entry]),
         Call::Bind { v, t } => bind(limits, area, v, t).map(|(turned, appended)| vec![turned, appended]),
         Call::Entry { i } => entry(limits, area, i).map(|row| row.to_vec()),
         Call::Report => loaded(limits, area).and_then(|state| give(&report(&state)?, out)).map(|written| vec![written]),
         Call::Write => loaded(limits, area).and_then(|state| give(&encode(&state.terms), out)).map(|written| vec![written]),
-    };
-    match numbers {
-        Ok(numbers) => Answer::new(0, &numbers),
-        Err(refusal) => Answer::new(refusal, &[]),
-    }
+    })
 }
 
 /// The state of a sound area; any other is refused.
@@ -57,7 +61,7 @@ fn loaded(limits: Limits, area: &[u8]) -> Result<State, u32> {
 }
 
 /// Puts bytes at the front of an output that has room for them, and gives their number.
-fn give(bytes: &[u8], out: &mut [u8]) -> Result<u32, u32> {
+pub fn give(bytes: &[u8], out: &mut [u8]) -> Result<u32, u32> {
     check(bytes.len() <= out.len(), 13)?;
     out[..bytes.len()].copy_from_slice(bytes);
     Ok(bytes.len() as u32)

@@ -1,12 +1,14 @@
 // Term rows into a book's bytes (specs/encode/Encoding.antt; docs/SPEC.md, "Bytes").
 
 ghost use mathlib.Core.Path.{_≡_};
-ghost use mathlib.Core.List.{_++_};
+ghost use mathlib.Core.List.{[], _++_};
 ghost use Prim.Native.Nat.{_≤_};
 ghost use lib.ListN.{length, drop};
 ghost use lib.Dec.{T};
 ghost use Rattle.model.specs.BookBytes.{bookBytes};
+ghost use Rattle.model.specs.Call.{emit};
 ghost use Rattle.layout.specs.limits.Rows.{bookOf};
+ghost use Rattle.runs.specs.Emits.{Writes};
 ghost use Rattle.book.specs.encode.Encoding.{encodable};
 
 // How many bytes the first `terms` rows take as a book.
@@ -36,4 +38,19 @@ pub fn encode(rows: &[u32], terms: usize, out: &mut [u8]) -> usize
         t += 1;
     }
     at
+}
+
+// Writes the book in the first `terms` rows: 13 where `out` is too short. `written` is the number of bytes written, 0 on a
+// refusal.
+pub fn write_book(rows: &[u32], terms: usize, out: &mut [u8], written: &mut u32) -> u32
+    requires { ⌜ T (encodable (now rows) terms) × (length (bookBytes (bookOf (now rows) terms)) ≤ 4294967295) ⌝ }
+    ensures { λ r. ⌜ Writes (emit (bookBytes (bookOf (now (rows .entry)) terms)) [] (now (out .entry))) r (now (written .exit)) (now (out .exit)) ⌝ }
+{
+    *written = 0;
+    if out.len() < encoded_length(rows, terms) {
+        return 13;
+    }
+    let count = encode(rows, terms, out);
+    *written = count as u32;
+    0
 }

@@ -4,6 +4,7 @@ ghost use mathlib.Core.Path.{_≡_};
 ghost use mathlib.Core.List.{[], _∷_};
 ghost use Rattle.model.specs.Limits.{office};
 ghost use Rattle.model.specs.Call.{callOpen, callAdd, callBind, callCopy, callEntry, callReport, callWrite};
+ghost use Rattle.model.specs.Archive.{callStore, callRestore};
 ghost use Rattle.office.specs.opening.Offered.{neededLength};
 ghost use Rattle.step.specs.answer.Stepped.{entryNumber, turnedNumber, appendedNumber};
 use step::answer::Step;
@@ -102,6 +103,40 @@ pub extern "C" fn fit_copy_book(book: &[u8], out: &mut [u8], written: &mut u32) 
     ensures output { λ r. ⌜ now (out .exit) ≡ callCopy office (now (book .entry)) (now (out .entry)) .output ⌝ }
 {
     office::copy::copy_book(book, out, written)
+}
+
+// Stores a book: with its variables first in `out`, and in `list` the old number of each of its terms. The book's refusals, then 13 where
+// either is too short. `written` and `list_written` are the numbers of bytes written to each, 0 on a refusal.
+#[no_mangle]
+pub extern "C" fn fit_store_book(
+    book: &[u8],
+    out: &mut [u8],
+    list: &mut [u8],
+    written: &mut u32,
+    list_written: &mut u32,
+) -> u32
+    ensures refusal { λ r. ⌜ r ≡ callStore office (now (book .entry)) (now (out .entry)) (now (list .entry)) .refusal ⌝ }
+    ensures written { λ r. ⌜ now (written .exit) ∷ now («list_written» .exit) ∷ [] ≡ callStore office (now (book .entry)) (now (out .entry)) (now (list .entry)) .numbers ⌝ }
+    ensures output { λ r. ⌜ now (out .exit) ≡ callStore office (now (book .entry)) (now (out .entry)) (now (list .entry)) .output ⌝ }
+    ensures list { λ r. ⌜ now (list .exit) ≡ callStore office (now (book .entry)) (now (out .entry)) (now (list .entry)) .list ⌝ }
+{
+    office::store::store_book(book, out, list, written, list_written)
+}
+
+// Restores a book: that of which `book` is the renumbering by `list`. The book's refusals, the list's (1, 2, 3, 8, 14), then 5, then 13
+// where `out` is too short. `written` is the number of bytes written, 0 on a refusal.
+#[no_mangle]
+pub extern "C" fn fit_restore_book(
+    book: &[u8],
+    list: &[u8],
+    out: &mut [u8],
+    written: &mut u32,
+) -> u32
+    ensures refusal { λ r. ⌜ r ≡ callRestore office (now (book .entry)) (now (list .entry)) (now (out .entry)) .refusal ⌝ }
+    ensures written { λ r. ⌜ now (written .exit) ∷ [] ≡ callRestore office (now (book .entry)) (now (list .entry)) (now (out .entry)) .numbers ⌝ }
+    ensures output { λ r. ⌜ now (out .exit) ≡ callRestore office (now (book .entry)) (now (list .entry)) (now (out .entry)) .output ⌝ }
+{
+    office::restore::restore_book(book, list, out, written)
 }
 
 // Reads an entry: 7 for an area that is not sound, 8 where there is no such entry. `fields` are left, right, kind, symbol, count,

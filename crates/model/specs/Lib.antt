@@ -8,6 +8,7 @@ pub mod Report
 pub mod BookBytes
 pub mod Area
 pub mod Call
+pub mod Archive
 pub mod Session
 pub mod Computing
 pub mod Samples

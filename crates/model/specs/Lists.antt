@@ -15,6 +15,11 @@ unfoldable pub first : {A : Type 0} → (A → Bool) → List A → ℕ
 first p [] = 0
 first p (x ∷ xs) = cond (p x) 0 (suc (first p xs))
 
+-- the elements that pass, in their order
+unfoldable pub keep : {A : Type 0} → (A → Bool) → List A → List A
+keep p [] = []
+keep p (x ∷ xs) = cond (p x) (x ∷ keep p xs) (keep p xs)
+
 -- i, i + 1, ..: n numbers
 unfoldable pub from : ℕ → ℕ → List ℕ
 from i zero = []

@@ -18,5 +18,5 @@ pub fn write(area: &[u8], out: &mut [u8], written: &mut u32) -> u32
         return 7;
     }
     let h = layout::header::load_header(area);
-    crate::copy::write_book(&rows, h.terms as usize, out, written)
+    book::encode::write_book(&rows, h.terms as usize, out, written)
 }

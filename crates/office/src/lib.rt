@@ -5,6 +5,8 @@
 // steps    a step on an area
 // opening  a book opened in an area, and where it is refused
 // copy     a book read and written back
+// store    a book stored with its variables first
+// restore  a book restored from a stored one and its list
 // entry    an entry of an area
 // books    the book of an area, written out
 // reports  the report of an area
@@ -15,4 +17,6 @@ pub mod entry;
 pub mod opening;
 mod read;
 pub mod reports;
+pub mod restore;
 pub mod steps;
+pub mod store;

@@ -1,3 +1,4 @@
 pub mod Gives
 pub mod Round
 pub mod Opening
+pub mod Parses

@@ -8,5 +8,6 @@ pub mod Report
 pub mod Area
 pub mod Book
 pub mod Runs
+pub mod Archive
 pub mod Refusals
 pub mod Theorems

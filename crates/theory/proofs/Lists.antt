@@ -4,3 +4,4 @@ pub mod Conjunctions
 pub mod Rows
 pub mod AreBytes
 pub mod From
+pub mod Keep

@@ -1,18 +1,19 @@
--- How long a book and a report can be (docs/SPEC.md, "Bytes"; document 01, "Sessions": the output always has space for the
+-- How long a book, a list and a report can be (docs/SPEC.md, "Bytes"; document 01, "Sessions": the output always has space for the
 -- report). Statements only.
 use mathlib.Core.Path.{_≡_}
-use mathlib.Core.List.{List}
+use mathlib.Core.List.{List, [], _∷_}
 use Prim.Native.Nat.{ℕ, _+_, _*_, _≤_}
-use lib.ListN.{length}
+use lib.ListN.{length, take}
 use lib.Dec.{T}
 use Rattle.leb128.specs.Laws.{areBytes}
 use Rattle.model.specs.Limits.{Limits, office, maxArity, sessionCapacity}
 use Rattle.model.specs.Term.{Book}
 use Rattle.model.specs.Step.{State}
-use Rattle.model.specs.Report.{reportBytes}
+use Rattle.model.specs.Report.{numberBytes, reportBytes}
 use Rattle.model.specs.BookBytes.{parsed, parseBook, bookBytes}
 use Rattle.model.specs.Area.{soundState, sound, stateOf}
-use Rattle.model.specs.Call.{callReport, callWrite, callCopy}
+use Rattle.model.specs.Call.{emit, callReport, callWrite, callCopy}
+use Rattle.model.specs.Archive.{variablesFirst, storedBook, parseRestored, callStore, callRestore}
 use Rattle.theory.specs.Modest.{Modest}
 
 -- Within the office's limits a number takes at most two bytes, and the count of a symbol's arguments one. So a term takes at most
@@ -30,9 +31,16 @@ bookMost terms = 2 + termMost * terms
 abbrev pub reportMost : ℕ → ℕ → ℕ
 reportMost lines entries = 2 + 2 * lines + 2 + entryMost * entries
 
--- docs/SPEC.md's numbers: no book is longer, no report, and no report in a session
+-- and of a list of so many terms
+abbrev pub listMost : ℕ → ℕ
+listMost terms = 2 * terms
+
+-- docs/SPEC.md's numbers: no book is longer, no list, no report, and no report in a session
 abbrev pub longestBook : ℕ
 longestBook = 19458
+
+abbrev pub longestList : ℕ
+longestList = 2048
 
 abbrev pub longestReport : ℕ
 longestReport = 47620
@@ -48,6 +56,13 @@ pub record Lengths : Type 0 where
       → length (bookBytes (s .book)) ≤ bookMost (length (s .book))
   pub report-written : (lim : Limits) → Modest lim → (s : State) → T (soundState lim s)
       → length (reportBytes s) ≤ reportMost (length (s .lines)) (length (s .entries))
+  -- what is stored for a book that opens, book and list, and what is restored
+  pub book-stored : (lim : Limits) → Modest lim → (bytes : List ℕ) (b : Book) (rest : List ℕ) → parseBook lim bytes ≡ parsed b rest
+      → length (bookBytes (storedBook b)) ≤ bookMost (length b)
+  pub list-stored : (lim : Limits) → Modest lim → (bytes : List ℕ) (b : Book) (rest : List ℕ) → parseBook lim bytes ≡ parsed b rest
+      → length (numberBytes (variablesFirst b)) ≤ listMost (length b)
+  pub book-restored : (lim : Limits) → Modest lim → (bytes list : List ℕ) (b : Book) (rest : List ℕ)
+      → parseRestored lim bytes list ≡ parsed b rest → length (bookBytes b) ≤ bookMost (length b)
   -- the office's
   pub office-book-read : (bytes : List ℕ) (b : Book) (rest : List ℕ) → T (areBytes bytes) → parseBook office bytes ≡ parsed b rest
       → length bytes ≤ longestBook
@@ -64,3 +79,12 @@ pub record Lengths : Type 0 where
   pub room-for-report : (area out : List ℕ) → T (sound office area) → longestReport ≤ length out → callReport office area out .refusal ≡ 0
   pub room-in-session : (area out : List ℕ) → T (sound office area) → stateOf area office .capacity ≡ sessionCapacity
       → longestSessionReport ≤ length out → callReport office area out .refusal ≡ 0
+  -- and outputs of these lengths are long enough for what is stored, and for what is restored
+  pub room-to-store : (bytes out list : List ℕ) (b : Book) (rest : List ℕ) → parseBook office bytes ≡ parsed b rest
+      → longestBook ≤ length out → longestList ≤ length list → callStore office bytes out list .refusal ≡ 0
+  pub room-to-restore : (bytes list out : List ℕ) → longestBook ≤ length out → callRestore office bytes list out .refusal ≡ 13 → ⊥
+  -- so every book that opens is stored, and restored from what was written
+  pub stored-and-back : (book out list back : List ℕ) (b : Book) (rest : List ℕ) → T (areBytes book) → parseBook office book ≡ parsed b rest
+      → longestBook ≤ length out → longestList ≤ length list → let o = callStore office book out list in
+      (o .refusal ≡ 0)
+      × ((m n : ℕ) → o .numbers ≡ m ∷ n ∷ [] → callRestore office (take m (o .output)) (take n (o .list)) back ≡ emit book [] back)

@@ -18,7 +18,7 @@ use Rattle.book.specs.decode.Rows.{bookRows}
 use Rattle.book.specs.unread.Unread.{orLeft, unreadTerms}
 use Rattle.book.specs.parse.Parts.{parseTerm, AdvanceOf, TermIn, BookIn}
 use Rattle.book.proofs.decode.Counts.{term-parsed, term-unread}
-use Rattle.book.proofs.decode.TermRows.{rows-none, rows-more, length-more}
+use Rattle.book.proofs.decode.TermRows.{rows-none, few-numbers, rows-more, length-more}
 
 -- after t terms the next one is at `next`
 pub record Read (bytes : List ℕ) (at count size : ℕ) (rows counts : List ℕ) (next t : ℕ) : Type 0 where
@@ -78,8 +78,8 @@ module _ (bytes : List ℕ) (at count size : ℕ) where
             as-many = length-append (r .book) (x ∷ []) ∙ ap (λ (n : ℕ). n + 1) (r .as-many);
             most = omega arith;
             within = s .2;
-            wide = length-more (r .book) x counts (term .suits) (r .wide);
-            written = term .written ∙ rw (r .written, ← r .as-many) (rows-more (r .book) x counts (term .suits) size (r .wide) (omega (arith, r .as-many)));
+            wide = length-more (r .book) x (few-numbers counts x (term .suits)) (r .wide);
+            written = term .written ∙ rw (r .written, ← r .as-many) (rows-more (r .book) x (few-numbers counts x (term .suits)) size (r .wide) (omega (arith, r .as-many)));
             counted = rw (term .counted) (counted-more (r .book) counts x (r .symbols) (term .suits) (r .counted));
             symbols = rw (term .counted, length-noted) (r .symbols);
             parse = next-parsed ∙ rw (s .1);

@@ -18,10 +18,13 @@ use Rattle.book.specs.parse.Parts.{nodeRow}
 
 -- ---- stores
 
--- one store more behind others
+-- some stores behind others, and one store
+pub sets-append : (rows : List ℕ) (i : ℕ) (xs ys : List ℕ) → sets rows i (xs ++ ys) ≡ sets (sets rows i xs) (i + length xs) ys
+sets-append rows i [] ys = rw (add-zero i)
+sets-append rows i (x ∷ xs) ys = rw (sets-append (set rows i x) (suc i) xs ys, suc-add, ← add-suc)
+
 pub sets-more : (rows : List ℕ) (i : ℕ) (xs : List ℕ) (x : ℕ) → sets rows i (xs ++ x ∷ []) ≡ set (sets rows i xs) (i + length xs) x
-sets-more rows i [] x = rw (add-zero i)
-sets-more rows i (y ∷ xs) x = rw (sets-more (set rows i y) (suc i) xs x, suc-add, ← add-suc)
+sets-more rows i xs x = sets-append rows i xs (x ∷ [])
 
 -- zeros without the first n
 drop-zeros : (n m : ℕ) → _≡_ {A = List ℕ} (drop n (replicate m 0)) (replicate (m - n) 0)
@@ -49,12 +52,12 @@ row-of var = refl
 row-of (app s args) = let e : termWords - suc (suc (length args)) ≡ maxArity - length args = omega arith in rw e
 
 -- the numbers of a node that may follow fill no more than its row
-few-numbers : (counts : List ℕ) (x : Node) → Suits counts x → length (nodeRow x) ≤ termWords
+pub few-numbers : (counts : List ℕ) (x : Node) → Suits counts x → length (nodeRow x) ≤ termWords
 unfolding nodeRow
 few-numbers counts var h = omega arith
 few-numbers counts (app s args) h = omega (arith, h .1)
 
-module _ (b : Book) (x : Node) (counts : List ℕ) (h : Suits counts x) where
+module _ (b : Book) (x : Node) (few : length (nodeRow x) ≤ termWords) where
   -- the words of a book with one more term
   words-more : concatMap nodeWords (b ++ x ∷ []) ≡ concatMap nodeWords b ++ padded termWords (nodeRow x)
   unfolding concatMap
@@ -62,14 +65,14 @@ module _ (b : Book) (x : Node) (counts : List ℕ) (h : Suits counts x) where
 
   pub length-more : length (concatMap nodeWords b) ≡ termWords * length b
       → length (concatMap nodeWords (b ++ x ∷ [])) ≡ termWords * length (b ++ x ∷ [])
-  length-more e = rw (words-more, length-append (concatMap nodeWords b) (padded termWords (nodeRow x)), e, length-padded termWords (nodeRow x) (few-numbers counts x h), length-append b (x ∷ [])) (omega arith)
+  length-more e = rw (words-more, length-append (concatMap nodeWords b) (padded termWords (nodeRow x)), e, length-padded termWords (nodeRow x) few, length-append b (x ∷ [])) (omega arith)
 
   -- its rows
   pub rows-more : (size : ℕ) → length (concatMap nodeWords b) ≡ termWords * length b → termWords * length b + termWords ≤ size
       → sets (bookRows size b) (termWords * length b) (nodeRow x) ≡ bookRows size (b ++ x ∷ [])
   unfolding bookRows
   rows-more size e l =
-      rw (← e, words-more) (row-stored size termWords (concatMap nodeWords b) (nodeRow x) (few-numbers counts x h) (omega arith))
+      rw (← e, words-more) (row-stored size termWords (concatMap nodeWords b) (nodeRow x) few (omega arith))
 
 -- rows that are all zero are those of no terms
 pub rows-none : (size : ℕ) → replicate size 0 ≡ bookRows size []

@@ -24,11 +24,11 @@ use Rattle.book.proofs.decode.Parsing.{then-same, up-to-then}
 -- ---- the outcomes
 
 -- whether bytes are left at a position
-left-none : (bytes : List ℕ) (end : ℕ) → length bytes ≤ end → isEmpty (drop end bytes) ≡ true
+pub left-none : (bytes : List ℕ) (end : ℕ) → length bytes ≤ end → isEmpty (drop end bytes) ≡ true
 unfolding isEmpty
 left-none bytes end h = rw (drop-of-length-le bytes h)
 
-left-some : (bytes : List ℕ) (end : ℕ) → end < length bytes → isEmpty (drop end bytes) ≡ false
+pub left-some : (bytes : List ℕ) (end : ℕ) → end < length bytes → isEmpty (drop end bytes) ≡ false
 unfolding isEmpty
 left-some bytes end h = rw (drop-cons bytes end 0 h)
 

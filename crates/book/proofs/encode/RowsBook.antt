@@ -92,7 +92,7 @@ module _ (size : ℕ) (b : Book) {β : Bindings} (f : Formed b β) (h : termWord
       map-from (nodeOf (bookRows size b)) 0 b var (λ t l. rw zero-add (node-of (bookRows size b) t _ (getD b t var) (row-stands t l)))
 
   -- each count is within the limit
-  small-count : (t : ℕ) → t < length b → getD (bookRows size b) (termWords * t + 1) 0 ≤ maxArity
+  pub small-count : (t : ℕ) → t < length b → getD (bookRows size b) (termWords * t + 1) 0 ≤ maxArity
   small-count t l = rw (word-of (bookRows size b) t _ (nodeWords (getD b t var)) (row-stands t l) 1) (count-of (getD b t var) _ (f .small-arity t l))
 
   -- its bytes are few

@@ -3,18 +3,19 @@
 use mathlib.Core.Path.{_≡_, _∙_}
 use mathlib.Core.List.{List, []}
 use mathlib.Core.Bool.{true, false}
-use Prim.Native.Nat.{ℕ}
+use Prim.Native.Nat.{ℕ, _*_}
+use native.Mathlib.Omega.{arith}
 use Rattle.model.specs.Limits.{office}
-use Rattle.model.specs.Area.{word, sound, stateOf}
+use Rattle.model.specs.Area.{termWords, word, sound, stateOf}
 use Rattle.model.specs.BookBytes.{bookBytes}
 use Rattle.model.specs.Call.{emit, callWrite}
 use Rattle.layout.specs.limits.Rows.{bookOf}
 use Rattle.runs.specs.Emits.{Writes}
 use Rattle.runs.proofs.Emitted.{tested-seven, tested-written}
 use Rattle.book.specs.decode.Rows.{bookRows}
+use Rattle.book.proofs.encode.BookHeld.{BookHeld, held-book}
 use Rattle.area.proofs.load.Uses.{read-facts, read-rows, read-terms}
 use Rattle.office.specs.read.Viewed.{Viewed}
-use Rattle.office.proofs.copy.BookHeld.{BookHeld, held-book}
 
 -- An area that is not sound.
 pub book-seven : (area out : List ℕ) → sound office area ≡ false → Writes (callWrite office area out) 7 0 out
@@ -24,13 +25,14 @@ book-seven area out e = tested-seven _ area out e
 -- An area that is, and what was read of it.
 module _ {area rows names lines entries : List ℕ} (h : Viewed area rows names lines entries) where
   -- the rows hold its book
-  pub read-held : (terms : ℕ) → terms ≡ word area 1 → BookHeld rows terms (stateOf area office .book) (stateOf area office .bound)
+  pub read-held : (terms : ℕ) → terms ≡ word area 1 → BookHeld (termWords * office .maxTerms) rows terms (stateOf area office .book) (stateOf area office .bound)
   unfolding bookRows
   read-held terms as-many =
       let r = h .read in
       record {
         formed = read-facts r .formed;
         few = read-facts r .few-terms;
+        room = omega (arith, read-facts r .few-terms);
         as-many = as-many ∙ read-terms r;
         written = read-rows r;
       }

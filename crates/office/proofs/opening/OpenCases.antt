@@ -79,14 +79,14 @@ module _ (capacity : ℕ) (book area : List ℕ) where
   pub open-refused : inRange capacity ≡ true → areaLength office capacity ≤ length area → (decodedRefusal (parseBook office book) ≡ 0 → ⊥)
       → callOpen office capacity book area ≡ refuse 0 (decodedRefusal (parseBook office book)) area []
   unfolding openParsed
-  open-refused h g n = open-parsed h g ∙ ap (openParsed office capacity area) (not-decoded book n)
+  open-refused h g n = open-parsed h g ∙ ap (openParsed office capacity area) (not-decoded office book n)
 
   pub open-accepted : inRange capacity ≡ true → areaLength office capacity ≤ length area → decodedRefusal (parseBook office book) ≡ 0
       → callOpen office capacity book area
       ≡ accept [] (over (concatMap (toBytes wordSize) (openedWords office capacity (length (decodedBook (parseBook office book))) (bookRows (termWords * office .maxTerms) (decodedBook (parseBook office book))))) area) []
   unfolding openParsed areaBytes bookRows
   open-accepted h g z =
-      let d = decoded book z in
+      let d = decoded office book z in
       let b = decodedBook (parseBook office book) in
       open-parsed h g ∙ ap (openParsed office capacity area) (d .1)
       ∙ ap (λ words. accept [] (over (concatMap (toBytes wordSize) words) area) [])

@@ -6,7 +6,7 @@ use Prim.Native.Nat.{ℕ, zero, suc}
 use native.Mathlib.Omega.{arith}
 use lib.ListN.{length}
 use lib.Dec.{T, eqb, ltb, leb, leb→le}
-use borrow.Author.Tests.{leb-true}
+use borrow.Author.Tests.{leb-true, ne-eqb}
 use Rattle.leb128.specs.Number.{maxGroups, maxNumber, Read, number, cut, invalid, read}
 use Rattle.model.specs.Limits.{Limits, maxArity, maxSymbol}
 use Rattle.model.specs.Lists.{all, isEmpty}
@@ -21,64 +21,84 @@ use Rattle.theory.proofs.Area.Bytes.{over-carries}
 use Rattle.theory.proofs.Book.Round.{opened-sound}
 use Rattle.theory.proofs.Runs.Simulation.{Lives}
 
--- a refusal is by a number that is not 0
-abbrev pub Positive : {A : Type 0} → Parsed A → Type 0
-Positive (parsed a rest) = Unit {0}
-Positive (unparsed n) = T (not (eqb n 0))
+-- a refusal is by a number that passes
+abbrev pub RefusedBy : {A : Type 0} → (ℕ → Bool) → Parsed A → Type 0
+RefusedBy q (parsed a rest) = Unit {0}
+RefusedBy q (unparsed n) = T (q n)
 
--- a test, a sequence and a number read keep this
-need-positive : {A : Type 0} (t : Bool) (n : ℕ) (p : Parsed A) → T (not (eqb n 0)) → Positive p → Positive (need t n p)
-unfolding need
-need-positive true n p h g = g
-need-positive false n p h g = h
+-- a test and a sequence keep this
+module _ (q : ℕ → Bool) where
+  pub need-refused : {A : Type 0} (t : Bool) (n : ℕ) (p : Parsed A) → T (q n) → RefusedBy q p → RefusedBy q (need t n p)
+  unfolding need
+  need-refused true n p h g = g
+  need-refused false n p h g = h
 
-then-positive : {A B : Type 0} (p : Parsed A) (f : A → List ℕ → Parsed B) → Positive p
-    → ((a : A) (rest : List ℕ) → Positive (f a rest)) → Positive (andThen p f)
-unfolding andThen
-then-positive (parsed a rest) f h g = g a rest
-then-positive (unparsed n) f h g = h
+  pub then-refused : {A B : Type 0} (p : Parsed A) (f : A → List ℕ → Parsed B) → RefusedBy q p
+      → ((a : A) (rest : List ℕ) → RefusedBy q (f a rest)) → RefusedBy q (andThen p f)
+  unfolding andThen
+  then-refused (parsed a rest) f h g = g a rest
+  then-refused (unparsed n) f h g = h
 
-read-positive : (r : Read) → Positive (fromRead r)
+-- a number that passes one test passes another
+pub refused-too : {A : Type 0} (q r : ℕ → Bool) → ((n : ℕ) → T (q n) → T (r n)) → (p : Parsed A) → RefusedBy q p → RefusedBy r p
+refused-too q r h (parsed a rest) g = tt
+refused-too q r h (unparsed n) g = h n g
+
+-- A book's refusals are 1 to 6.
+abbrev pub ofBook : ℕ → Bool
+ofBook n = leb 1 n && leb n 6
+
+-- a number read
+read-refused : (r : Read) → RefusedBy ofBook (fromRead r)
 unfolding fromRead
-read-positive (number n rest) = tt
-read-positive cut = tt
-read-positive invalid = tt
+read-refused (number n rest) = tt
+read-refused cut = tt
+read-refused invalid = tt
 
-number-positive : (bytes : List ℕ) → Positive (parseNumber bytes)
+pub number-refused : (bytes : List ℕ) → RefusedBy ofBook (parseNumber bytes)
 unfolding parseNumber
-number-positive bytes = read-positive (read maxGroups maxNumber bytes)
+number-refused bytes = read-refused (read maxGroups maxNumber bytes)
 
 -- so do the parsers, up to the whole book's
-arguments-positive : (t c : ℕ) (bytes : List ℕ) → Positive (parseArguments t c bytes)
+arguments-refused : (t c : ℕ) (bytes : List ℕ) → RefusedBy ofBook (parseArguments t c bytes)
 unfolding parseArguments
-arguments-positive t zero bytes = tt
-arguments-positive t (suc c) bytes =
-    then-positive (parseNumber bytes) _ (number-positive bytes)
-    (λ a rest. need-positive (ltb a t) 5 _ tt (then-positive (parseArguments t c rest) _ (arguments-positive t c rest) (λ args rest′. tt)))
+arguments-refused t zero bytes = tt
+arguments-refused t (suc c) bytes =
+    then-refused ofBook (parseNumber bytes) _ (number-refused bytes)
+    (λ a rest. need-refused ofBook (ltb a t) 5 _ tt (then-refused ofBook (parseArguments t c rest) _ (arguments-refused t c rest) (λ args rest′. tt)))
 
-node-positive : (before : Book) (tag : ℕ) (bytes : List ℕ) → Positive (parseNode before tag bytes)
+node-refused : (before : Book) (tag : ℕ) (bytes : List ℕ) → RefusedBy ofBook (parseNode before tag bytes)
 unfolding parseNode parseApp
-node-positive before zero bytes = tt
-node-positive before (suc s) bytes =
-    need-positive (leb s maxSymbol) 4 _ tt
-    (then-positive (parseNumber bytes) _ (number-positive bytes)
-    (λ c rest. need-positive (leb c maxArity) 4 _ tt
-    (need-positive (all (arityFits s c) before) 6 _ tt
-    (then-positive (parseArguments (length before) c rest) _ (arguments-positive (length before) c rest) (λ args rest′. tt)))))
+node-refused before zero bytes = tt
+node-refused before (suc s) bytes =
+    need-refused ofBook (leb s maxSymbol) 4 _ tt
+    (then-refused ofBook (parseNumber bytes) _ (number-refused bytes)
+    (λ c rest. need-refused ofBook (leb c maxArity) 4 _ tt
+    (need-refused ofBook (all (arityFits s c) before) 6 _ tt
+    (then-refused ofBook (parseArguments (length before) c rest) _ (arguments-refused (length before) c rest) (λ args rest′. tt)))))
 
-terms-positive : (k : ℕ) (before : Book) (bytes : List ℕ) → Positive (parseTerms k before bytes)
+terms-refused : (k : ℕ) (before : Book) (bytes : List ℕ) → RefusedBy ofBook (parseTerms k before bytes)
 unfolding parseTerms
-terms-positive zero before bytes = tt
-terms-positive (suc k) before bytes =
-    then-positive (parseNumber bytes) _ (number-positive bytes)
-    (λ tag rest. then-positive (parseNode before tag rest) _ (node-positive before tag rest) (λ n rest′. terms-positive k (before ++ n ∷ []) rest′))
+terms-refused zero before bytes = tt
+terms-refused (suc k) before bytes =
+    then-refused ofBook (parseNumber bytes) _ (number-refused bytes)
+    (λ tag rest. then-refused ofBook (parseNode before tag rest) _ (node-refused before tag rest) (λ n rest′. terms-refused k (before ++ n ∷ []) rest′))
+
+pub book-refused : (lim : Limits) (bytes : List ℕ) → RefusedBy ofBook (parseBook lim bytes)
+unfolding parseBook
+book-refused lim bytes =
+    then-refused ofBook (parseNumber bytes) _ (number-refused bytes)
+    (λ n rest. need-refused ofBook (leb n (lim .maxTerms)) 4 _ tt
+    (then-refused ofBook (parseTerms n [] rest) _ (terms-refused n [] rest) (λ b rest′. need-refused ofBook (isEmpty rest′) 3 _ tt tt)))
+
+-- so they are not 0
+abbrev pub Positive : {A : Type 0} → Parsed A → Type 0
+Positive p = RefusedBy (λ n. not (eqb n 0)) p
 
 pub book-positive : (lim : Limits) (bytes : List ℕ) → Positive (parseBook lim bytes)
-unfolding parseBook
 book-positive lim bytes =
-    then-positive (parseNumber bytes) _ (number-positive bytes)
-    (λ n rest. need-positive (leb n (lim .maxTerms)) 4 _ tt
-    (then-positive (parseTerms n [] rest) _ (terms-positive n [] rest) (λ b rest′. need-positive (isEmpty rest′) 3 _ tt tt)))
+    refused-too ofBook (λ n. not (eqb n 0))
+    (λ n h. rw (ne-eqb n 0 (λ e. omega (arith, leb→le 1 n (and-left (leb 1 n) (leb n 6) h)))) tt) (parseBook lim bytes) (book-refused lim bytes)
 
 -- The book of the bytes, and its state on the area.
 pub record Opens (lim : Limits) (capacity : ℕ) (book area : List ℕ) : Type 0 where
@@ -95,7 +115,7 @@ opens-at : (lim : Limits) (capacity : ℕ) (book area : List ℕ) (t u : Bool) (
 unfolding guard refuse accept openParsed opened
 opens-at lim capacity book area false u p e g h z = absurd (omega arith)
 opens-at lim capacity book area true false p e g h z = absurd (omega arith)
-opens-at lim capacity book area true true (unparsed n) e g h z = absurd (rw (h, z) at (book-positive lim book))
+opens-at lim capacity book area true true (unparsed n) e g h z = absurd (rw (h, z) at (book-refused lim book))
 opens-at lim capacity book area true true (parsed b rest) e g h z =
     let c : T (leb 1 capacity && leb capacity (lim .maxCapacity)) = true-T _ e in
     let f : SoundFacts lim (opened b capacity) =

@@ -25,12 +25,12 @@ use Rattle.theory.proofs.Lists.AreBytes.{bytes-behind}
 use Rattle.theory.proofs.Soundness.Facts.{Formed, TableRight, SoundFacts}
 
 -- The bytes are those of the numbers ns, and the rest.
-record Wrote (bytes ns rest : List ℕ) : Type 0 where
-  whole : bytes ≡ numberBytes ns ++ rest
-  are-bytes : T (areBytes rest)
+pub record Wrote (bytes ns rest : List ℕ) : Type 0 where
+  pub whole : bytes ≡ numberBytes ns ++ rest
+  pub are-bytes : T (areBytes rest)
 
 -- at first none is read
-wrote-none : (bytes : List ℕ) → T (areBytes bytes) → Wrote bytes [] bytes
+pub wrote-none : (bytes : List ℕ) → T (areBytes bytes) → Wrote bytes [] bytes
 unfolding numberBytes concatMap
 wrote-none bytes h = record { whole = refl; are-bytes = h }
 
@@ -47,7 +47,7 @@ module _ (bytes : List ℕ) where
       }
 
   -- a number that is read is one number more
-  number-written : (ns mid : List ℕ) → Wrote bytes ns mid → Gives (parseNumber mid) (λ n rest. Wrote bytes (ns ++ n ∷ []) rest)
+  pub number-written : (ns mid : List ℕ) → Wrote bytes ns mid → Gives (parseNumber mid) (λ n rest. Wrote bytes (ns ++ n ∷ []) rest)
   unfolding parseNumber fromRead
   number-written ns mid w = go (read maxGroups maxNumber mid) refl
     where
@@ -91,7 +91,7 @@ module _ (bytes : List ℕ) where
       terms-written k x (before ++ n ∷ []) rest′ (omega (arith, length-append before (n ∷ []))) (rw (concatMap-append, append-nil) u)
 
 -- an empty list has no element
-empty-nil : (xs : List ℕ) → T (isEmpty xs) → xs ≡ []
+pub empty-nil : (xs : List ℕ) → T (isEmpty xs) → xs ≡ []
 unfolding isEmpty
 empty-nil [] h = refl
 empty-nil (x ∷ xs) h = absurd h
@@ -127,7 +127,7 @@ unbound-none : (b : Book) (t : ℕ) → getD (unbound b) t none ≡ none
 unbound-none b t = List·getD-map (λ (n : Node). none) b t var
 
 -- so no term is bound to another
-nothing-bound : (b : Book) (t u : ℕ) → getD (unbound b) t none ≡ some u → ⊥
+pub nothing-bound : (b : Book) (t u : ℕ) → getD (map (λ (n : Node). none) b) t none ≡ some u → ⊥
 nothing-bound b t u e = let z : _≡_ {A = ℕ} 0 1 = cc (unbound-none b t) in omega arith
 
 -- A term that may stand after those of b.
@@ -177,7 +177,7 @@ module _ (b : Book) (n : Node) (f : Formed b (unbound b)) (g : Fitting b n) wher
   }
 
 -- the rules hold of no terms
-empty-formed : Formed [] []
+pub empty-formed : Formed [] []
 empty-formed = record {
   same-length = refl;
   lower = λ t l. absurd (not-suc-le-zero l);
@@ -229,8 +229,8 @@ node-fits before (suc s) bytes =
     }
 
 -- terms after those that obey the rules: x in all
-terms-formed : (k x : ℕ) (before : Book) (bytes : List ℕ) → length before + k ≡ x → Formed before (unbound before)
-    → Gives (parseTerms k before bytes) (λ b rest. Formed b (unbound b) × (length b ≡ x))
+pub terms-formed : (k x : ℕ) (before : Book) (bytes : List ℕ) → length before + k ≡ x → Formed before (map (λ (n : Node). none) before)
+    → Gives (parseTerms k before bytes) (λ b rest. Formed b (map (λ (n : Node). none) b) × (length b ≡ x))
 unfolding parseTerms
 terms-formed zero x before bytes e f = (f, omega arith)
 terms-formed (suc k) x before bytes e f =

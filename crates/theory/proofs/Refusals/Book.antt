@@ -28,7 +28,7 @@ passed-follows : {A : Type 0} (k : ℕ) (P : Type 0) → P → (p : Parsed A) (t
 passed-follows k P h (parsed a rest) ts f = λ next n d. inl (h, f next n d)
 passed-follows k P h (unparsed m) ts f = λ next. inl (h, f next)
 
-need-follows : {A P : Type 0} {t : Bool} (k : ℕ) → Tells P t → (p : Parsed A) (ts : (A → List ℕ → List Test) → List Test)
+pub need-follows : {A P : Type 0} {t : Bool} (k : ℕ) → Tells P t → (p : Parsed A) (ts : (A → List ℕ → List Test) → List Test)
     → Follows p ts → Follows (need t k p) (λ next. refuses k P (ts next))
 unfolding need
 need-follows {P = P} k (holds h) p ts f = passed-follows k P h p ts f
@@ -41,7 +41,7 @@ behind-follows : {A B : Type 0} (a : A) (rest : List ℕ) (ts : (A → List ℕ 
 behind-follows a rest ts us f (parsed b rest′) g = λ next n d. f (λ a′ r. us a′ r next) n (g next n d)
 behind-follows a rest ts us f (unparsed k) g = λ next. f (λ a′ r. us a′ r next) k (g next)
 
-then-follows : {A B : Type 0} (p : Parsed A) (ts : (A → List ℕ → List Test) → List Test) (g : A → List ℕ → Parsed B)
+pub then-follows : {A B : Type 0} (p : Parsed A) (ts : (A → List ℕ → List Test) → List Test) (g : A → List ℕ → Parsed B)
     (us : A → List ℕ → (B → List ℕ → List Test) → List Test) → Follows p ts → ((a : A) (rest : List ℕ) → Follows (g a rest) (us a rest))
     → Follows (andThen p g) (λ next. ts (λ a rest. us a rest next))
 unfolding andThen
@@ -57,7 +57,7 @@ read-follows (number n rest) = λ next m d.
 read-follows cut = λ next. inr (λ h. h refl, refl)
 read-follows invalid = λ next. inl (λ e. (let z : _≡_ {A = ℕ} 0 1 = cc in omega arith), inr (λ h. h refl, refl))
 
-number-follows : (bytes : List ℕ) → Follows (parseNumber bytes) (numberTests bytes)
+pub number-follows : (bytes : List ℕ) → Follows (parseNumber bytes) (numberTests bytes)
 unfolding parseNumber
 number-follows bytes = read-follows (read maxGroups maxNumber bytes)
 

@@ -1,12 +1,13 @@
--- How long the bytes of a book and of a report can be (specs/Lengths.antt). Assumes nothing.
-use mathlib.Core.Path.{_≡_}
+-- How long the bytes of a book, of a list and of a report can be (specs/Lengths.antt). Assumes nothing.
+use mathlib.Core.Path.{_≡_, refl}
+use mathlib.Core.Bool.{true}
 use mathlib.Core.List.{List, [], _∷_, _++_, map}
 use Prim.Native.Nat.{ℕ, suc, _+_, _*_, _≤_, _<_, zero-le, suc-le-suc}
 use native.Mathlib.Nat.{mul-suc}
 use native.Mathlib.Omega.{arith}
 use borrow.Author.Tests.{le-leb}
 use lib.ListN.{length, getD, length-append, length-map}
-use lib.Dec.{T}
+use lib.Dec.{T, leb}
 use Rattle.leb128.specs.Number.{maxGroups, write}
 use Rattle.leb128.specs.Laws.{areBytes}
 use Rattle.leb128.proofs.Groups.{by-test}
@@ -17,11 +18,13 @@ use Rattle.model.specs.Term.{Node, var, app, symbol, arguments, Book, Bindings,
 use Rattle.model.specs.Table.{Kind, hole, common, Entry, Table, entry}
 use Rattle.model.specs.Step.{State}
 use Rattle.model.specs.Report.{number, kindNumbers, entryNumbers, report, numberBytes, reportBytes}
-use Rattle.model.specs.BookBytes.{parsed, parseBook, nodeNumbers, bookBytes}
+use Rattle.model.specs.BookBytes.{Parsed, parsed, unparsed, parseBook, nodeNumbers, bookBytes}
 use Rattle.model.specs.Area.{soundState, sound, stateOf}
-use Rattle.model.specs.Call.{accept, guard, emit, copyParsed, callReport, callWrite, callCopy}
+use Rattle.model.specs.Call.{refuse, accept, guard, emit, copyParsed, callReport, callWrite, callCopy}
+use Rattle.model.specs.Archive.{variablesFirst, storedBook, parseRestored, callRestore, emitBoth, storeParsed, callStore}
 use Rattle.theory.specs.Modest.{Modest}
-use Rattle.theory.specs.Lengths.{termMost, entryMost, bookMost, reportMost, longestBook, longestReport, longestSessionReport, Lengths}
+use Rattle.theory.specs.Archive.{EachOnce, OpensAs}
+use Rattle.theory.specs.Lengths.{termMost, entryMost, bookMost, listMost, reportMost, longestBook, longestList, longestReport, longestSessionReport, Lengths}
 use Rattle.theory.proofs.Soundness.Facts.{Formed, SoundFacts, KindRight}
 use Rattle.theory.proofs.Soundness.Test.{sound-facts, facts-sound}
 use Rattle.theory.proofs.Lists.Laws.{T-true, concatMap-append}
@@ -31,6 +34,9 @@ use Rattle.theory.proofs.Area.Layout.{root-arity}
 use Rattle.theory.proofs.Area.Small.{root-symbol}
 use Rattle.theory.proofs.Area.Bytes.{sound-carries}
 use Rattle.theory.proofs.Book.Round.{parsed-formed, written-back}
+use Rattle.theory.proofs.Archive.VariablesFirst.{in-order}
+use Rattle.theory.proofs.Archive.Formed.{stored-as, stored-opens}
+use Rattle.theory.proofs.Archive.Calls.{restored-opens, restored-not-thirteen, archive}
 use Rattle.theory.proofs.Report.Numbering.{numbering, order-short}
 use Rattle.theory.proofs.Report.Small.{numbered, numbers-below}
 
@@ -156,6 +162,29 @@ module _ (lim : Limits) (m : Modest lim) where
       let f = parsed-formed lim bytes b rest e in
       (rw (written-back lim bytes b rest h e) at (book-long b _ (f .0) (omega (arith, f .1))), f .1)
 
+  -- any book whose bytes open as it
+  opens-long : (b : Book) → OpensAs lim b → length (bookBytes b) ≤ bookMost (length b)
+  opens-long b e = let f = parsed-formed lim (bookBytes b) b [] e in book-long b _ (f .0) (omega (arith, f .1))
+
+  book-stored : (bytes : List ℕ) (b : Book) (rest : List ℕ) → parseBook lim bytes ≡ parsed b rest
+      → length (bookBytes (storedBook b)) ≤ bookMost (length b)
+  book-stored bytes b rest e =
+      let s : length (storedBook b) ≡ length b = stored-as b .renumbers .as-many in
+      let l = opens-long (storedBook b) (stored-opens lim bytes b rest e) in
+      omega (arith, s, l)
+
+  list-stored : (bytes : List ℕ) (b : Book) (rest : List ℕ) → parseBook lim bytes ≡ parsed b rest
+      → length (numberBytes (variablesFirst b)) ≤ listMost (length b)
+  list-stored bytes b rest e =
+      let o : EachOnce (length b) (variablesFirst b) = in-order b .each-once in
+      let few = parsed-formed lim bytes b rest e .1 in
+      let l = row-long (variablesFirst b) (λ i l. omega (arith, few, o .as-many, o .terms i (omega (arith, o .as-many)))) in
+      omega (arith, o .as-many, l)
+
+  book-restored : (bytes list : List ℕ) (b : Book) (rest : List ℕ) → parseRestored lim bytes list ≡ parsed b rest
+      → length (bookBytes b) ≤ bookMost (length b)
+  book-restored bytes list b rest e = opens-long b (restored-opens lim bytes list b rest e)
+
   module _ (s : State) (h : T (soundState lim s)) where
     facts : SoundFacts lim s
     facts = sound-facts lim s h
@@ -205,6 +234,33 @@ module _ (area out : List ℕ) (h : T (sound office area)) where
   unfolding callReport guard emit accept
   report-room l = rw (T-true (sound office area) h, le-leb (length (reportBytes (stateOf area office))) (length out) l)
 
+-- what is stored and restored, where it fits
+room-to-store : (bytes out list : List ℕ) (b : Book) (rest : List ℕ) → parseBook office bytes ≡ parsed b rest
+    → longestBook ≤ length out → longestList ≤ length list → callStore office bytes out list .refusal ≡ 0
+unfolding callStore storeParsed emitBoth
+room-to-store bytes out list b rest e p q =
+    let few = parsed-formed office bytes b rest e .1 in
+    rw (
+      e,
+      le-leb (length (bookBytes (storedBook b))) (length out) (omega (arith, few, book-stored office office-modest bytes b rest e)),
+      le-leb (length (numberBytes (variablesFirst b))) (length list) (omega (arith, few, list-stored office office-modest bytes b rest e)),
+    )
+
+restored-fits : (bytes list out : List ℕ) (b : Book) (rest : List ℕ) → parseRestored office bytes list ≡ parsed b rest
+    → longestBook ≤ length out → leb (length (bookBytes b)) (length out) ≡ true
+restored-fits bytes list out b rest e p =
+    let opens = restored-opens office bytes list b rest e in
+    let few = parsed-formed office (bookBytes b) b [] opens .1 in
+    le-leb (length (bookBytes b)) (length out) (omega (arith, few, book-restored office office-modest bytes list b rest e))
+
+room-to-restore : (bytes list out : List ℕ) → longestBook ≤ length out → callRestore office bytes list out .refusal ≡ 13 → ⊥
+unfolding callRestore copyParsed emit guard refuse accept
+room-to-restore bytes list out p z = go (parseRestored office bytes list) refl z
+  where
+    go : (q : Parsed Book) → parseRestored office bytes list ≡ q → copyParsed out q .refusal ≡ 13 → ⊥
+    go (parsed b rest) e z = let zero : _≡_ {A = ℕ} 0 13 = rw (restored-fits bytes list out b rest e p) at z in omega arith
+    go (unparsed n) e z = rw (e, z) at (restored-not-thirteen office bytes list)
+
 -- the state of a sound area is sound
 state-sound : (area : List ℕ) → T (sound office area) → T (soundState office (stateOf area office))
 state-sound area h = facts-sound office (stateOf area office) (sound-carries office area h .0)
@@ -225,4 +281,12 @@ lengths =
       room-at-capacity = λ area out h l. report-room area out h (omega (arith, report-at-capacity (stateOf area office) (state-sound area h)));
       room-for-report = λ area out h l. report-room area out h (omega (arith, office-report (stateOf area office) (state-sound area h)));
       room-in-session = λ area out h e l. report-room area out h (omega (arith, session-report (stateOf area office) (state-sound area h) e));
+      book-stored = book-stored;
+      list-stored = list-stored;
+      book-restored = book-restored;
+      room-to-store = room-to-store;
+      room-to-restore = room-to-restore;
+      stored-and-back = λ book out list back b rest w e p q.
+          let z = room-to-store book out list b rest e p q in
+          (z, λ m n h. archive .stored-restores office book out list w z m n h back);
     }

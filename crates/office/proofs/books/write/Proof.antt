@@ -6,8 +6,8 @@ use borrow.Author.Needs.{needs}
 use borrow.Author.Tests.{not-true, not-false}
 use Rattle.model.specs.Limits.{office}
 use Rattle.theory.proofs.Lists.Laws.{true-T}
+use Rattle.book.proofs.encode.BookHeld.{held-encodable, held-few}
 use Rattle.area.proofs.load.Uses.{sound-header}
-use Rattle.office.proofs.copy.BookHeld.{held-encodable, held-few}
 use Rattle.office.proofs.books.Written.{book-seven, read-held, written-book}
 use Rattle.office.proofs.books.write.Statement.{statement}
 use Rattle.office.proofs.books.write.Tie as tie

@@ -1,32 +1,44 @@
 -- `copy::copy_book` meets its contract. Where the decoder refuses nothing, its rows are those of a book, and that book is
 -- written. Assumes nothing.
 use mathlib.Core.Path.{sym, _∙_}
+use mathlib.Core.List.{map}
+use mathlib.Core.Option.{none}
+use Prim.Native.Nat.{_*_}
 use native.Mathlib.Omega.{arith}
 use borrow.Author.Needs.{needs}
-use Rattle.office.proofs.copy.BookHeld.{held-encodable, held-few}
-use Rattle.office.proofs.copy.Copied.{Decoded, copied-refused, decoded-held, copied}
+use Rattle.model.specs.Limits.{office}
+use Rattle.model.specs.Term.{Node}
+use Rattle.model.specs.Area.{termWords}
+use Rattle.model.specs.BookBytes.{parseBook}
+use Rattle.model.specs.Call.{callCopy}
+use Rattle.theory.proofs.Book.Opening.{book-positive}
+use Rattle.theory.proofs.Report.Lengths.{office-modest}
+use Rattle.book.specs.decode.Rows.{decodedBook}
+use Rattle.book.proofs.encode.BookHeld.{held-encodable, held-few}
+use Rattle.book.proofs.encode.Copied.{Decoded, book-decoded, copied-refused, copied}
 use Rattle.office.proofs.copy.copy_book.Statement.{statement}
 use Rattle.office.proofs.copy.copy_book.Tie as tie
 
 -- what is known behind the test
-rows-decoded : (c : tie.Else1) → Decoded (c .before .before .before .before .before .before .args .book .now) (c .before .before .decode .last .1 .1 .0) (c .before .before .decode .result .terms)
+rows-decoded : (c : tie.Else1) →
+    let p = parseBook office (c .before .before .before .before .before .before .args .book .now) in
+    Decoded (termWords * office .maxTerms) p (c .before .before .decode .last .1 .1 .0) (c .before .before .decode .result .terms) (map (λ (n : Node). none) (decodedBook p))
 rows-decoded c =
     let d = c .before .before .decode in
-    record {
-      none-refused = sym (d .ensures .0) ∙ c .if1 .left;
-      as-many = d .ensures .1 .0;
-      written = d .ensures .1 .1 (c .if1 .left);
-    }
+    book-decoded office office-modest _ _ _ (sym (d .ensures .0) ∙ c .if1 .left) (d .ensures .1 .0) (d .ensures .1 .1 (c .if1 .left))
 
 returns : tie.Need-returns
+unfolding callCopy
 returns c = copied-refused _ _ _ (c .before .before .decode .ensures .0) (c .if1 .taken)
 
 write-book-requires : tie.Need-write-book-requires
 write-book-requires c κs =
-    let d = decoded-held (rows-decoded (c .before .before .before .before)) in (held-encodable d, omega (arith, held-few d))
+    let d = rows-decoded (c .before .before .before .before) .held in (held-encodable d, omega (arith, held-few d))
 
 returns-2 : tie.Need-returns-2
-returns-2 c = copied (rows-decoded (c .before .before .before .before .before .before .before)) _ (c .before .before .write-book .ensures)
+unfolding callCopy
+returns-2 c =
+    copied _ _ (book-positive office _) (rows-decoded (c .before .before .before .before .before .before .before)) (c .before .before .write-book .ensures)
 
 pub copy-book-spec : {M : Type 1} → statement M
 copy-book-spec =

@@ -1,8 +1,8 @@
--- `copy::write_book` meets its contract: an output that is too short, or one that the encoder has written to. Assumes nothing.
+-- `encode::write_book` meets its contract: an output that is too short, or one that the encoder has written to. Assumes nothing.
 use borrow.Author.Needs.{needs}
 use Rattle.runs.proofs.Emitted.{emit-short, emit-whole}
-use Rattle.office.proofs.copy.write_book.Statement.{statement}
-use Rattle.office.proofs.copy.write_book.Tie as tie
+use Rattle.book.proofs.encode.write_book.Statement.{statement}
+use Rattle.book.proofs.encode.write_book.Tie as tie
 
 returns : tie.Need-returns
 returns c = emit-short _ _ _ (rw (c .before .encoded-length .ensures) at (c .if1 .taken))

@@ -1,0 +1,3 @@
+pub mod OfKind
+pub mod Numbers
+pub mod Inverting

@@ -1,0 +1,4 @@
+pub mod Arguments
+pub mod Terms
+pub mod Same
+pub mod Held

@@ -1,0 +1,86 @@
+// Term rows moved to new numbers, their arguments renumbered (specs/moving/Moving.antt). Storing and restoring are this, by a list and
+// by its inverse.
+
+ghost use mathlib.Core.Path.{_≡_};
+ghost use mathlib.Core.List.{map};
+ghost use Prim.Native.Nat.{ℕ, _+_, _*_, _≤_, _<_};
+ghost use lib.ListN.{length, take, drop, replicate};
+ghost use lib.Seq.{sets};
+ghost use lib.Dec.{ltb};
+ghost use Rattle.model.specs.Lists.{all};
+ghost use Rattle.model.specs.Term.{arguments};
+ghost use Rattle.model.specs.Area.{termWords};
+ghost use Rattle.model.specs.Archive.{renumbered, argumentsLower};
+ghost use Rattle.layout.specs.limits.Rows.{at, nodeOf};
+ghost use Rattle.book.specs.decode.Rows.{bookRows};
+ghost use Rattle.book.specs.parse.Parts.{nodeRow};
+ghost use Rattle.archive.specs.moving.Moving.{RowMoves, RowsMove, movedBook};
+
+// Moves `count` arguments from word `start` of the rows to word `place`, each renumbered. Says whether all are then below `limit`.
+fn move_arguments(
+    rows: &[u32],
+    start: usize,
+    count: usize,
+    target: &[u32],
+    moved: &mut [u32],
+    place: usize,
+    limit: usize,
+) -> bool
+    requires { ⌜ (start + count ≤ length (now rows)) × (place + count ≤ length (now moved))
+        × ((j : ℕ) → j < count → at (now rows) (start + j) < length (now target)) ⌝ }
+    ensures lower { λ r. ⌜ r ≡ all (λ a. ltb a limit) (map (at (now (target .entry))) (take count (drop start (now (rows .entry))))) ⌝ }
+    ensures moved { λ r. ⌜ now (moved .exit) ≡ sets (now (moved .entry)) place (map (at (now (target .entry))) (take count (drop start (now (rows .entry))))) ⌝ }
+{
+    let mut lower = true;
+    let mut j: usize = 0;
+    while j < count {
+        let from = start + j;
+        let a = rows[from] as usize;
+        let b = target[a];
+        let to = place + j;
+        moved[to] = b;
+        if limit <= b as usize {
+            lower = false;
+        }
+        j += 1;
+    }
+    lower
+}
+
+// Moves the term in row `from` to row `i`, which is all zero, its arguments renumbered. Says whether they are then lower than `i`.
+fn move_term(rows: &[u32], from: usize, target: &[u32], moved: &mut [u32], i: usize) -> bool
+    requires { ⌜ RowMoves (now rows) from (now target) × (termWords * i + termWords ≤ length (now moved)) ⌝ }
+    ensures lower { λ r. ⌜ r ≡ all (λ a. ltb a i) (arguments (renumbered (at (now (target .entry))) (nodeOf (now (rows .entry)) from))) ⌝ }
+    ensures moved { λ r. ⌜ now (moved .exit) ≡ sets (now (moved .entry)) (termWords * i) (nodeRow (renumbered (at (now (target .entry))) (nodeOf (now (rows .entry)) from))) ⌝ }
+{
+    let start = layout::limits::TERM_WORDS * from;
+    let symbol = rows[start];
+    if symbol == 0 {
+        return true;
+    }
+    let place = layout::limits::TERM_WORDS * i;
+    let second = start + 1;
+    let count = rows[second];
+    moved[place] = symbol;
+    let behind = place + 1;
+    moved[behind] = count;
+    move_arguments(rows, start + 2, count as usize, target, moved, place + 2, i)
+}
+
+// Moves the book in the first `n` rows: its term i is the old term `source` i, and its arguments are their `target`. Says whether each
+// argument is then lower than its term.
+pub fn move_terms(rows: &[u32], n: usize, source: &[u32], target: &[u32], moved: &mut [u32]) -> bool
+    requires { ⌜ RowsMove (now rows) n (now source) (now target) × (termWords * n ≤ length (now moved)) × (now moved ≡ replicate (length (now moved)) 0) ⌝ }
+    ensures lower { λ r. ⌜ r ≡ argumentsLower (movedBook (now (rows .entry)) n (now (source .entry)) (now (target .entry))) ⌝ }
+    ensures moved { λ r. ⌜ now (moved .exit) ≡ bookRows (length (now (moved .entry))) (movedBook (now (rows .entry)) n (now (source .entry)) (now (target .entry))) ⌝ }
+{
+    let mut lower = true;
+    let mut i: usize = 0;
+    while i < n {
+        if !move_term(rows, source[i] as usize, target, moved, i) {
+            lower = false;
+        }
+        i += 1;
+    }
+    lower
+}

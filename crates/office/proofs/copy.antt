@@ -1,2 +1,0 @@
-pub mod BookHeld
-pub mod Copied

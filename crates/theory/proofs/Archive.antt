@@ -1,0 +1,5 @@
+pub mod Moved
+pub mod VariablesFirst
+pub mod Formed
+pub mod Reading
+pub mod Calls

@@ -10,13 +10,21 @@ ghost use lib.Dec.{ltb};
 ghost use Rattle.model.specs.Lists.{all};
 ghost use Rattle.model.specs.Term.{arguments};
 ghost use Rattle.model.specs.Area.{termWords};
+ghost use Rattle.model.specs.Report.{numberBytes};
+ghost use Rattle.model.specs.BookBytes.{nodeNumbers, bookBytes};
 ghost use Rattle.model.specs.Archive.{renumbered, argumentsLower};
 ghost use Rattle.layout.specs.limits.Rows.{at, nodeOf};
 ghost use Rattle.book.specs.decode.Rows.{bookRows};
 ghost use Rattle.book.specs.parse.Parts.{nodeRow};
 ghost use Rattle.archive.specs.moving.Moving.{RowMoves, RowsMove, movedBook};
 
-// Moves `count` arguments from word `start` of the rows to word `place`, each renumbered. Says whether all are then below `limit`.
+// What moving finds: whether each argument is then lower than its term (rule 5), and how many bytes the numbers take.
+pub struct Moved {
+    pub lower: bool,
+    pub bytes: usize,
+}
+
+// Moves `count` arguments from word `start` of the rows to word `place`, each renumbered. Lower is here: below `limit`.
 fn move_arguments(
     rows: &[u32],
     start: usize,
@@ -25,13 +33,15 @@ fn move_arguments(
     moved: &mut [u32],
     place: usize,
     limit: usize,
-) -> bool
+) -> Moved
     requires { ⌜ (start + count ≤ length (now rows)) × (place + count ≤ length (now moved))
         × ((j : ℕ) → j < count → at (now rows) (start + j) < length (now target)) ⌝ }
-    ensures lower { λ r. ⌜ r ≡ all (λ a. ltb a limit) (map (at (now (target .entry))) (take count (drop start (now (rows .entry))))) ⌝ }
+    ensures lower { λ r. ⌜ r .lower ≡ all (λ a. ltb a limit) (map (at (now (target .entry))) (take count (drop start (now (rows .entry))))) ⌝ }
+    ensures bytes { λ r. ⌜ r .bytes ≡ length (numberBytes (map (at (now (target .entry))) (take count (drop start (now (rows .entry)))))) ⌝ }
     ensures moved { λ r. ⌜ now (moved .exit) ≡ sets (now (moved .entry)) place (map (at (now (target .entry))) (take count (drop start (now (rows .entry))))) ⌝ }
 {
     let mut lower = true;
+    let mut bytes: usize = 0;
     let mut j: usize = 0;
     while j < count {
         let from = start + j;
@@ -39,24 +49,29 @@ fn move_arguments(
         let b = target[a];
         let to = place + j;
         moved[to] = b;
+        bytes += leb128::length_of(b);
         if limit <= b as usize {
             lower = false;
         }
         j += 1;
     }
-    lower
+    Moved { lower, bytes }
 }
 
-// Moves the term in row `from` to row `i`, which is all zero, its arguments renumbered. Says whether they are then lower than `i`.
-fn move_term(rows: &[u32], from: usize, target: &[u32], moved: &mut [u32], i: usize) -> bool
+// Moves the term in row `from` to row `i`, which is all zero, its arguments renumbered.
+fn move_term(rows: &[u32], from: usize, target: &[u32], moved: &mut [u32], i: usize) -> Moved
     requires { ⌜ RowMoves (now rows) from (now target) × (termWords * i + termWords ≤ length (now moved)) ⌝ }
-    ensures lower { λ r. ⌜ r ≡ all (λ a. ltb a i) (arguments (renumbered (at (now (target .entry))) (nodeOf (now (rows .entry)) from))) ⌝ }
+    ensures lower { λ r. ⌜ r .lower ≡ all (λ a. ltb a i) (arguments (renumbered (at (now (target .entry))) (nodeOf (now (rows .entry)) from))) ⌝ }
+    ensures bytes { λ r. ⌜ r .bytes ≡ length (numberBytes (nodeNumbers (renumbered (at (now (target .entry))) (nodeOf (now (rows .entry)) from)))) ⌝ }
     ensures moved { λ r. ⌜ now (moved .exit) ≡ sets (now (moved .entry)) (termWords * i) (nodeRow (renumbered (at (now (target .entry))) (nodeOf (now (rows .entry)) from))) ⌝ }
 {
     let start = layout::limits::TERM_WORDS * from;
     let symbol = rows[start];
     if symbol == 0 {
-        return true;
+        return Moved {
+            lower: true,
+            bytes: 1,
+        };
     }
     let place = layout::limits::TERM_WORDS * i;
     let second = start + 1;
@@ -64,23 +79,37 @@ fn move_term(rows: &[u32], from: usize, target: &[u32], moved: &mut [u32], i: us
     moved[place] = symbol;
     let behind = place + 1;
     moved[behind] = count;
-    move_arguments(rows, start + 2, count as usize, target, moved, place + 2, i)
+    let arguments = move_arguments(rows, start + 2, count as usize, target, moved, place + 2, i);
+    Moved {
+        lower: arguments.lower,
+        bytes: leb128::length_of(symbol) + leb128::length_of(count) + arguments.bytes,
+    }
 }
 
-// Moves the book in the first `n` rows: its term i is the old term `source` i, and its arguments are their `target`. Says whether each
-// argument is then lower than its term.
-pub fn move_terms(rows: &[u32], n: usize, source: &[u32], target: &[u32], moved: &mut [u32]) -> bool
-    requires { ⌜ RowsMove (now rows) n (now source) (now target) × (termWords * n ≤ length (now moved)) × (now moved ≡ replicate (length (now moved)) 0) ⌝ }
-    ensures lower { λ r. ⌜ r ≡ argumentsLower (movedBook (now (rows .entry)) n (now (source .entry)) (now (target .entry))) ⌝ }
+// Moves the book in the first `n` rows: its term i is the old term `source` i, and its arguments are their `target`. The bytes are those of
+// the whole book.
+pub fn move_terms(
+    rows: &[u32],
+    n: usize,
+    source: &[u32],
+    target: &[u32],
+    moved: &mut [u32],
+) -> Moved
+    requires { ⌜ RowsMove (now rows) n (now source) (now target) × (termWords * n ≤ length (now moved)) × (now moved ≡ replicate (length (now moved)) 0) × (n ≤ 4294967295) ⌝ }
+    ensures lower { λ r. ⌜ r .lower ≡ argumentsLower (movedBook (now (rows .entry)) n (now (source .entry)) (now (target .entry))) ⌝ }
+    ensures bytes { λ r. ⌜ r .bytes ≡ length (bookBytes (movedBook (now (rows .entry)) n (now (source .entry)) (now (target .entry)))) ⌝ }
     ensures moved { λ r. ⌜ now (moved .exit) ≡ bookRows (length (now (moved .entry))) (movedBook (now (rows .entry)) n (now (source .entry)) (now (target .entry))) ⌝ }
 {
     let mut lower = true;
+    let mut bytes = leb128::length_of(n as u32);
     let mut i: usize = 0;
     while i < n {
-        if !move_term(rows, source[i] as usize, target, moved, i) {
+        let term = move_term(rows, source[i] as usize, target, moved, i);
+        bytes += term.bytes;
+        if !term.lower {
             lower = false;
         }
         i += 1;
     }
-    lower
+    Moved { lower, bytes }
 }

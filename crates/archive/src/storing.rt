@@ -1,5 +1,6 @@
 // A book stored: its variables first, and beside it the list of its terms' old numbers (docs/SPEC.md, "Stored book and its list").
 
+ghost use mathlib.Core.Path.{_≡_};
 ghost use Prim.Native.Nat.{_≤_};
 ghost use lib.ListN.{length, take};
 ghost use lib.Dec.{T};
@@ -15,25 +16,26 @@ ghost use Rattle.book.specs.encode.Encoding.{encodable};
 ghost use Rattle.archive.specs.storing.Lent.{Lent};
 use layout::limits::Limits;
 
-// Writes the book in the first `n` rows and the first `n` numbers of the list: 13 where either output is too short, and then
+// Writes the book in the first `n` rows, which takes `bytes` bytes, and the first `n` numbers of the list: 13 where either output is too short, and then
 // neither is touched. `written` and `list_written` are the numbers of bytes written, 0 on a refusal.
 fn write_both(
     rows: &[u32],
     n: usize,
+    bytes: usize,
     listed: &[u32],
     out: &mut [u8],
     list: &mut [u8],
     written: &mut u32,
     list_written: &mut u32,
 ) -> u32
-    requires { ⌜ T (encodable (now rows) n) × (length (bookBytes (bookOf (now rows) n)) ≤ 4294967295)
+    requires { ⌜ T (encodable (now rows) n) × (length (bookBytes (bookOf (now rows) n)) ≤ 4294967295) × (bytes ≡ length (bookBytes (bookOf (now rows) n)))
         × (n ≤ length (now listed)) × smallWords (take n (now listed)) ⌝ }
     ensures { λ r. ⌜ WritesBoth (emitBoth (bookBytes (bookOf (now (rows .entry)) n)) (numberBytes (take n (now (listed .entry)))) (now (out .entry)) (now (list .entry)))
         r (now (written .exit)) (now («list_written» .exit)) (now (out .exit)) (now (list .exit)) ⌝ }
 {
     *written = 0;
     *list_written = 0;
-    if out.len() < book::encode::encoded_length(rows, n) {
+    if out.len() < bytes {
         return 13;
     }
     if list.len() < runs::run_length(listed, 0, n) {
@@ -75,6 +77,15 @@ pub fn store(
     let n = decoded.terms as usize;
     crate::list::variables_first(rows, n, listed);
     crate::list::invert(listed, n, places);
-    crate::moving::move_terms(rows, n, listed, places, moved);
-    write_both(moved, n, listed, out, list, written, list_written)
+    let found = crate::moving::move_terms(rows, n, listed, places, moved);
+    write_both(
+        moved,
+        n,
+        found.bytes,
+        listed,
+        out,
+        list,
+        written,
+        list_written,
+    )
 }

@@ -40,17 +40,31 @@ pub fn encode(rows: &[u32], terms: usize, out: &mut [u8]) -> usize
     at
 }
 
-// Writes the book in the first `terms` rows: 13 where `out` is too short. `written` is the number of bytes written, 0 on a
-// refusal.
-pub fn write_book(rows: &[u32], terms: usize, out: &mut [u8], written: &mut u32) -> u32
-    requires { ⌜ T (encodable (now rows) terms) × (length (bookBytes (bookOf (now rows) terms)) ≤ 4294967295) ⌝ }
+// Writes the book in the first `terms` rows, which takes `bytes` bytes: 13 where `out` is too short. `written` is the number of bytes
+// written, 0 on a refusal.
+pub fn write_measured(
+    rows: &[u32],
+    terms: usize,
+    bytes: usize,
+    out: &mut [u8],
+    written: &mut u32,
+) -> u32
+    requires { ⌜ T (encodable (now rows) terms) × (length (bookBytes (bookOf (now rows) terms)) ≤ 4294967295) × (bytes ≡ length (bookBytes (bookOf (now rows) terms))) ⌝ }
     ensures { λ r. ⌜ Writes (emit (bookBytes (bookOf (now (rows .entry)) terms)) [] (now (out .entry))) r (now (written .exit)) (now (out .exit)) ⌝ }
 {
     *written = 0;
-    if out.len() < encoded_length(rows, terms) {
+    if out.len() < bytes {
         return 13;
     }
     let count = encode(rows, terms, out);
     *written = count as u32;
     0
+}
+
+// The same of a book that is not measured yet.
+pub fn write_book(rows: &[u32], terms: usize, out: &mut [u8], written: &mut u32) -> u32
+    requires { ⌜ T (encodable (now rows) terms) × (length (bookBytes (bookOf (now rows) terms)) ≤ 4294967295) ⌝ }
+    ensures { λ r. ⌜ Writes (emit (bookBytes (bookOf (now (rows .entry)) terms)) [] (now (out .entry))) r (now (written .exit)) (now (out .exit)) ⌝ }
+{
+    write_measured(rows, terms, encoded_length(rows, terms), out, written)
 }

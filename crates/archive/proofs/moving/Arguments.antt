@@ -6,19 +6,35 @@ use Prim.Native.Nat.{ℕ, suc, _+_, _*_, _-_, _≤_, _<_}
 use native.Mathlib.Numerals.{add-one}
 use native.Mathlib.Omega.{arith}
 use borrow.Author.Tests.{eq-eqb, ne-eqb}
-use lib.ListN.{length, getD, set, take, drop, length-map, length-drop}
+use lib.ListN.{length, getD, set, take, drop, length-append, length-map, length-drop}
 use lib.Seq.{sets, length-sets, take-suc, length-take-le, getD-take, getD-drop}
 use lib.Dec.{ltb, eqb}
 use Rattle.model.specs.Limits.{maxArity}
-use Rattle.model.specs.Lists.{all}
+use Rattle.leb128.specs.Number.{maxGroups, write}
+use Rattle.leb128.proofs.Writing.{one-byte}
+use Rattle.model.specs.Lists.{all, concatMap}
 use Rattle.model.specs.Term.{Node, var, app, arguments}
 use Rattle.model.specs.Area.{termWords}
+use Rattle.model.specs.Report.{numberBytes}
+use Rattle.model.specs.BookBytes.{nodeNumbers}
 use Rattle.model.specs.Archive.{renumbered}
 use Rattle.theory.proofs.Lists.Laws.{all-append}
 use Rattle.layout.specs.limits.Rows.{at, nodeOf}
 use Rattle.book.specs.parse.Parts.{nodeRow}
 use Rattle.book.proofs.decode.TermRows.{sets-more}
+use Rattle.runs.proofs.Numbers.{numbers-append, numbers-first, length-write, length-numbers}
 use Rattle.archive.specs.moving.Moving.{RowMoves}
+
+-- no number takes no byte, and 0 takes one
+none-long : length (numberBytes []) ≡ 0
+unfolding numberBytes concatMap
+none-long = refl
+
+zero-long : 1 ≡ length (numberBytes (0 ∷ []))
+zero-long = sym (ap length (numbers-first 0 []) ∙ length-append (write maxGroups 0) (numberBytes []) ∙ rw (one-byte 0 (omega arith), none-long))
+
+pub number-small : (n : ℕ) {r : ℕ} → r ≡ length (write maxGroups n) → r ≤ maxGroups
+number-small n e = omega (arith, e, length-write n)
 
 -- ---- arguments
 
@@ -35,22 +51,24 @@ module _ (rows : List ℕ) (start : ℕ) (target : List ℕ) where
   args-long : (j : ℕ) → start + j ≤ length rows → length (args j) ≡ j
   args-long j l = length-map (take j (drop start rows)) (at target) ∙ length-take-le j (drop start rows) (rw length-drop (omega arith))
 
-  -- The first j are moved, and whether they are below the limit is known.
-  pub record ArgumentsMoved (count : ℕ) (moved₀ : List ℕ) (place limit : ℕ) (moved : List ℕ) (lower : Bool) (j : ℕ) : Type 0 where
+  -- The first j are moved; whether they are below the limit and how many bytes they take is known.
+  pub record ArgumentsMoved (count : ℕ) (moved₀ : List ℕ) (place limit : ℕ) (moved : List ℕ) (lower : Bool) (bytes j : ℕ) : Type 0 where
     pub few : j ≤ count
     pub written : moved ≡ sets moved₀ place (args j)
     pub low : lower ≡ all (λ a. ltb a limit) (args j)
+    pub long : bytes ≡ length (numberBytes (args j))
 
   module _ {count : ℕ} {moved₀ : List ℕ} {place limit : ℕ} where
-    pub moved-none : ArgumentsMoved count moved₀ place limit moved₀ true 0
-    unfolding all
-    moved-none = record { few = omega arith; written = refl; low = refl }
+    pub moved-none : ArgumentsMoved count moved₀ place limit moved₀ true 0 0
+    unfolding all numberBytes concatMap
+    moved-none = record { few = omega arith; written = refl; low = refl; long = refl }
 
-    pub moved-more : {moved : List ℕ} {lower : Bool} {j : ℕ} → ArgumentsMoved count moved₀ place limit moved lower j → start + count ≤ length rows → j < count
+    pub moved-more : {moved : List ℕ} {lower : Bool} {bytes j : ℕ} → ArgumentsMoved count moved₀ place limit moved lower bytes j
+        → start + count ≤ length rows → j < count → (more : ℕ) → more ≡ length (write maxGroups (at target (at rows (start + j))))
         → (lower′ : Bool) → lower′ ≡ lower && ltb (at target (at rows (start + j))) limit
-        → ArgumentsMoved count moved₀ place limit (set moved (place + j) (at target (at rows (start + j)))) lower′ (j + 1)
+        → ArgumentsMoved count moved₀ place limit (set moved (place + j) (at target (at rows (start + j)))) lower′ (bytes + more) (j + 1)
     unfolding all
-    moved-more {moved} {lower} {j} m room l lower′ e =
+    moved-more {moved} {lower} {bytes} {j} m room l more b lower′ e =
         record {
           few = omega arith;
           written =
@@ -58,16 +76,25 @@ module _ (rows : List ℕ) (start : ℕ) (target : List ℕ) where
           low =
               rw (args-more j (omega arith), all-append (λ a. ltb a limit) (args j) (at target (at rows (start + j)) ∷ []), ← m .low)
               (rw and-true e);
+          long =
+              rw (args-more j (omega arith), numbers-append (args j) (at target (at rows (start + j)) ∷ []), numbers-first, length-append, length-append, b, m .long)
+              (omega (arith, none-long));
         }
 
-    pub moved-long : {moved : List ℕ} {lower : Bool} {j : ℕ} → ArgumentsMoved count moved₀ place limit moved lower j → length moved ≡ length moved₀
-    moved-long {moved} {lower} {j} m = rw (m .written) (length-sets moved₀ place (args j))
+    pub moved-long : {moved : List ℕ} {lower : Bool} {bytes j : ℕ} → ArgumentsMoved count moved₀ place limit moved lower bytes j → length moved ≡ length moved₀
+    moved-long {moved} {lower} {bytes} {j} m = rw (m .written) (length-sets moved₀ place (args j))
 
-    pub moved-all : {moved : List ℕ} {lower : Bool} {j : ℕ} → ArgumentsMoved count moved₀ place limit moved lower j → count ≤ j
-        → (lower ≡ all (λ a. ltb a limit) (args count)) × (moved ≡ sets moved₀ place (args count))
-    moved-all {moved} {lower} {j} m l =
+    -- each takes three bytes at most
+    pub moved-small : {moved : List ℕ} {lower : Bool} {bytes j : ℕ} → ArgumentsMoved count moved₀ place limit moved lower bytes j
+        → start + count ≤ length rows → bytes ≤ maxGroups * j
+    moved-small {moved} {lower} {bytes} {j} m room =
+        omega (arith, m .long, length-numbers (args j), args-long j (omega (arith, m .few)))
+
+    pub moved-all : {moved : List ℕ} {lower : Bool} {bytes j : ℕ} → ArgumentsMoved count moved₀ place limit moved lower bytes j → count ≤ j
+        → (lower ≡ all (λ a. ltb a limit) (args count)) × ((bytes ≡ length (numberBytes (args count))) × (moved ≡ sets moved₀ place (args count)))
+    moved-all {moved} {lower} {bytes} {j} m l =
         let e : j ≡ count = omega (arith, m .few) in
-        (m .low ∙ ap (λ k. all (λ a. ltb a limit) (args k)) e, m .written ∙ ap (λ k. sets moved₀ place (args k)) e)
+        (m .low ∙ ap (λ k. all (λ a. ltb a limit) (args k)) e, (m .long ∙ ap (λ k. length (numberBytes (args k))) e, m .written ∙ ap (λ k. sets moved₀ place (args k)) e))
 
 -- ---- a term
 
@@ -77,9 +104,9 @@ module _ (rows : List ℕ) (t : ℕ) (target : List ℕ) (r : RowMoves rows t ta
 
   -- a variable has no words
   pub variable-moved : (moved : List ℕ) (place i : ℕ) → at rows (termWords * t) ≡ 0
-      → (true ≡ all (λ a. ltb a i) (arguments new)) × (moved ≡ sets moved place (nodeRow new))
-  unfolding nodeOf renumbered arguments nodeRow all
-  variable-moved moved place i e = (rw (eq-eqb _ 0 e), rw (eq-eqb _ 0 e))
+      → (true ≡ all (λ a. ltb a i) (arguments new)) × ((1 ≡ length (numberBytes (nodeNumbers new))) × (moved ≡ sets moved place (nodeRow new)))
+  unfolding nodeOf renumbered arguments nodeNumbers nodeRow all
+  variable-moved moved place i e = (rw (eq-eqb _ 0 e), (rw (eq-eqb _ 0 e) zero-long, rw (eq-eqb _ 0 e)))
 
   -- any other term has a symbol, a count and arguments
   module _ (e : at rows (termWords * t) ≡ 0 → ⊥) where
@@ -104,13 +131,25 @@ module _ (rows : List ℕ) (t : ℕ) (target : List ℕ) (r : RowMoves rows t ta
         let k = h (rw old-long l) in
         rw (getD-take (at rows (termWords * t + 1)) (drop (termWords * t + 2) rows) j 0 l, getD-drop (termWords * t + 2) rows j 0) at k
 
-    pub applied-moved : (moved moved′ : List ℕ) (place i : ℕ) (lower : Bool) →
+    -- and at most three bytes
+    pub arguments-small : {z : ℕ} → z ≡ length (numberBytes (map (at target) (take (at rows (termWords * t + 1)) (drop (termWords * t + 2) rows))))
+        → z ≤ maxGroups * maxArity
+    arguments-small e =
+        omega (arith, e, length-numbers (map (at target) (take (at rows (termWords * t + 1)) (drop (termWords * t + 2) rows))), length-map (take (at rows (termWords * t + 1)) (drop (termWords * t + 2) rows)) (at target), old-long, r .few)
+
+    pub applied-moved : (moved moved′ : List ℕ) (place i : ℕ) (lower : Bool) (x y z : ℕ) →
         let args′ = map (at target) (take (at rows (termWords * t + 1)) (drop (termWords * t + 2) rows)) in
-        lower ≡ all (λ a. ltb a i) args′
+        lower ≡ all (λ a. ltb a i) args′ → x ≡ length (write maxGroups (at rows (termWords * t)))
+        → y ≡ length (write maxGroups (at rows (termWords * t + 1))) → z ≡ length (numberBytes args′)
         → moved′ ≡ sets (set (set moved place (at rows (termWords * t))) (place + 1) (at rows (termWords * t + 1))) (place + 2) args′
-        → (lower ≡ all (λ a. ltb a i) (arguments new)) × (moved′ ≡ sets moved place (nodeRow new))
-    unfolding renumbered arguments nodeRow
-    applied-moved moved moved′ place i lower f g =
+        → (lower ≡ all (λ a. ltb a i) (arguments new)) × ((x + y + z ≡ length (numberBytes (nodeNumbers new))) × (moved′ ≡ sets moved place (nodeRow new)))
+    unfolding renumbered arguments nodeNumbers nodeRow
+    applied-moved moved moved′ place i lower x y z f a b c g =
         let symbol : suc (at rows (termWords * t) - 1) ≡ at rows (termWords * t) = omega arith in
-        let two : place + 2 ≡ suc (suc place) = omega arith in
-        (rw node f, rw (node, symbol, length-map, old-long) (rw (add-one, two) at g))
+        let two : place + 2 ≡ suc (suc place) = omega arith in (
+          rw node f,
+          (
+            rw (node, symbol, length-map, old-long, numbers-first, numbers-first, length-append, length-append, a, b, c) (omega arith),
+            rw (node, symbol, length-map, old-long) (rw (add-one, two) at g),
+          ),
+        )

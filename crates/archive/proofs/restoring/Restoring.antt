@@ -53,16 +53,18 @@ list-named n bytes = go (parseNumbers n bytes)
     go (parsed list rest) = tests list (isEmpty rest) (all (λ t. ltb t n) list)
     go (unparsed k) = refl
 
--- What decoding answers of an outcome: its refusal, the number of its terms, and its rows.
-abbrev pub Answered : ℕ → Parsed Book → ℕ → ℕ → List ℕ → Type 0
-Answered size p refusal terms rows =
-    (refusal ≡ decodedRefusal p) × ((terms ≡ length (decodedBook p)) × (refusal ≡ 0 → rows ≡ bookRows size (decodedBook p)))
+-- What decoding answers of an outcome: its refusal, the number of its terms, the length of its bytes, and its rows.
+abbrev pub Answered : ℕ → Parsed Book → ℕ → ℕ → ℕ → List ℕ → Type 0
+Answered size p refusal terms bytes rows =
+    (refusal ≡ decodedRefusal p)
+    × ((terms ≡ length (decodedBook p))
+    × ((refusal ≡ 0 → bytes ≡ length (bookBytes (decodedBook p))) × (refusal ≡ 0 → rows ≡ bookRows size (decodedBook p))))
 
 -- a refusal
-answered-refused : (size : ℕ) (p : Parsed Book) (k : ℕ) → p ≡ unparsed k → (k ≡ 0 → ⊥) → (refusal terms : ℕ) → refusal ≡ k → terms ≡ 0 → (rows : List ℕ)
-    → Answered size p refusal terms rows
+answered-refused : (size : ℕ) (p : Parsed Book) (k : ℕ) → p ≡ unparsed k → (k ≡ 0 → ⊥) → (refusal terms bytes : ℕ) → refusal ≡ k → terms ≡ 0 → (rows : List ℕ)
+    → Answered size p refusal terms bytes rows
 unfolding decodedRefusal decodedBook
-answered-refused size p k e h refusal terms r m rows = rw (e, r, m) (refl, (refl, λ z. absurd (h z)))
+answered-refused size p k e h refusal terms bytes r m rows = rw (e, r, m) (refl, (refl, (λ z. absurd (h z), λ z. absurd (h z))))
 
 module _ (lim : Limits) (book list : List ℕ) where
   abbrev restored : Parsed Book
@@ -72,12 +74,11 @@ module _ (lim : Limits) (book list : List ℕ) where
   size = termWords * lim .maxTerms
 
   -- THE BOOK is refused.
-  pub book-refused : (refusal terms : ℕ) → refusal ≡ decodedRefusal (parseBook lim book) → terms ≡ length (decodedBook (parseBook lim book))
-      → (refusal ≡ 0 → ⊥) → (rows : List ℕ) → Answered size restored refusal terms rows
-  unfolding parseRestored andThen decodedBook
-  book-refused refusal terms r m h rows =
-      let e = not-decoded lim book (λ z. h (r ∙ z)) in
-      answered-refused size restored _ (ap (λ p. andThen p (λ b rest. restoreBy list b)) e) (λ z. h (r ∙ z)) refusal terms r (rw e at m) rows
+  pub book-refused : (k : ℕ) → k ≡ decodedRefusal (parseBook lim book) → (k ≡ 0 → ⊥) → (refusal terms bytes : ℕ) → refusal ≡ k → terms ≡ 0
+      → (rows : List ℕ) → Answered size restored refusal terms bytes rows
+  unfolding parseRestored andThen
+  book-refused k r h =
+      answered-refused size restored k (ap (λ p. andThen p (λ b rest. restoreBy list b)) (not-decoded lim book (λ z. h (r ∙ z))) ∙ ap unparsed (sym r)) h
 
   module _ {rows : List ℕ} {n : ℕ} {β : Bindings} (d : Decoded size (parseBook lim book) rows n β) where
     abbrev the-book : Book
@@ -94,8 +95,8 @@ module _ (lim : Limits) (book list : List ℕ) where
         ∙ ap (λ k. andThen (parseList k list) (λ listed rest. need (argumentsLower (restoredBook listed the-book)) 5 (parsed (restoredBook listed the-book) []))) (sym (d .held .as-many))
 
     -- THE LIST is refused by 1, 2, 3 or 8.
-    pub list-refused : (k : ℕ) (listed : List ℕ) → outcome k [] listed ≡ parseNamed n list → (k ≡ 0 → ⊥) → (refusal terms : ℕ) → refusal ≡ k → terms ≡ 0
-        → (rows : List ℕ) → Answered size restored refusal terms rows
+    pub list-refused : (k : ℕ) (listed : List ℕ) → outcome k [] listed ≡ parseNamed n list → (k ≡ 0 → ⊥) → (refusal terms bytes : ℕ) → refusal ≡ k → terms ≡ 0
+        → (rows : List ℕ) → Answered size restored refusal terms bytes rows
     unfolding outcome andThen
     list-refused zero listed e h = absurd (h refl)
     list-refused (suc k) listed e h =
@@ -122,7 +123,7 @@ module _ (lim : Limits) (book list : List ℕ) where
       named-low i l = rw (getD-take n listed i 0 l) at (ltb→lt _ n (all-at (λ t. ltb t n) (take n listed) 0 all-named i (rw list-long l)))
 
       -- A TERM TWICE.
-      pub list-twice : allDistinct (take n listed) ≡ false → (refusal terms : ℕ) → refusal ≡ 14 → terms ≡ 0 → (rows : List ℕ) → Answered size restored refusal terms rows
+      pub list-twice : allDistinct (take n listed) ≡ false → (refusal terms bytes : ℕ) → refusal ≡ 14 → terms ≡ 0 → (rows : List ℕ) → Answered size restored refusal terms bytes rows
       unfolding andThen need
       list-twice e = answered-refused size restored 14 (by-list ∙ rw (list-named n list, is-named, e)) (λ z. omega arith)
 
@@ -149,19 +150,20 @@ module _ (lim : Limits) (book list : List ℕ) where
         by-rule = by-list ∙ rw (list-named n list, is-named, e, same)
 
         -- RULE 5 does not hold.
-        pub not-lower : argumentsLower (movedBook rows n places listed) ≡ false → (refusal terms : ℕ) → refusal ≡ 5 → terms ≡ 0 → (rows : List ℕ)
-            → Answered size restored refusal terms rows
+        pub not-lower : argumentsLower (movedBook rows n places listed) ≡ false → (refusal terms bytes : ℕ) → refusal ≡ 5 → terms ≡ 0 → (rows : List ℕ)
+            → Answered size restored refusal terms bytes rows
         unfolding need
         not-lower f = answered-refused size restored 5 (by-rule ∙ rw f) (λ z. omega arith)
 
         -- It holds.
         pub all-restored : argumentsLower (movedBook rows n places listed) ≡ true → (moved₀ moved′ : List ℕ) → moved₀ ≡ replicate size 0
-            → moved′ ≡ bookRows (length moved₀) (movedBook rows n places listed) → (refusal : ℕ) → refusal ≡ 0 → Answered size restored refusal n moved′
+            → moved′ ≡ bookRows (length moved₀) (movedBook rows n places listed) → (bytes : ℕ) → bytes ≡ length (bookBytes (movedBook rows n places listed))
+            → Answered size restored 0 n bytes moved′
         unfolding need decodedRefusal decodedBook movedBook
-        all-restored f moved₀ moved′ blank w refusal z =
+        all-restored f moved₀ moved′ blank w bytes b =
             let long : length moved₀ ≡ size = rw (blank, length-replicate) in
             let whole : restored ≡ parsed (movedBook rows n places listed) [] = by-rule ∙ rw f in
-            rw (z, whole) (refl, (sym many, λ y. w ∙ ap (λ k. bookRows k (movedBook rows n places listed)) long))
+            rw whole (refl, (sym many, (λ y. b, λ y. w ∙ ap (λ k. bookRows k (movedBook rows n places listed)) long)))
           where
             many : length (movedBook rows n places listed) ≡ n
             many = length-moved (at places) (at listed) (bookOf rows n) ∙ book-long rows n

@@ -126,6 +126,13 @@ module _ (lim : Limits) (book : List ℕ) {rows : List ℕ} {n : ℕ} {β : Bind
             written = w ∙ ap₂ bookRows long same;
           }
 
+      -- of so many bytes
+      pub stored-bytes : {bytes : ℕ} → bytes ≡ length (bookBytes (movedBook rows n listed places)) → bytes ≡ length (bookBytes (bookOf moved′ n))
+      unfolding storedBook
+      stored-bytes e =
+          let same : movedBook rows n listed places ≡ storedBook the-book = rw front at (held-stored (d .held) listed places once v) in
+          e ∙ ap (λ b. length (bookBytes b)) (same ∙ sym (held-book stored-held))
+
       -- and what is written of them is stored
       pub stored-written : (out buffer : List ℕ) {refusal written listWritten : ℕ} {out′ buffer′ : List ℕ}
           → WritesBoth (emitBoth (bookBytes (bookOf moved′ n)) (numberBytes (take n listed)) out buffer) refusal written listWritten out′ buffer′

@@ -50,7 +50,7 @@ count-of var rest h = zero-le
 count-of (app s args) rest h = h
 
 -- a term has at most one row of numbers
-node-numbers : (n : Node) → length (arguments n) ≤ maxArity → length (nodeNumbers n) ≤ termWords
+pub node-numbers : (n : Node) → length (arguments n) ≤ maxArity → length (nodeNumbers n) ≤ termWords
 unfolding nodeNumbers arguments
 node-numbers var h = omega arith
 node-numbers (app s args) h = omega arith

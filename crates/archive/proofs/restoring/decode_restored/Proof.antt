@@ -37,7 +37,8 @@ known c =
     book-decoded _ (start c .pre .0) _ _ _ (sym (d .ensures .0) ∙ c .if1 .left) (d .ensures .1 .0) (d .ensures .1 .1 (c .if1 .left))
 
 returns : tie.Need-returns
-returns c = book-refused _ _ _ _ _ (c .before .before .before .before .decode .ensures .0) (c .before .before .before .before .decode .ensures .1 .0) (c .if1 .taken) _
+returns c =
+    book-refused _ _ _ _ (c .before .before .before .before .before .decode .ensures .0) (c .before .if1 .taken) _ _ _ (c .refused .ensures .0) (c .refused .ensures .1) _
 
 read-list-requires : tie.Need-read-list-requires
 read-list-requires c κs =
@@ -47,7 +48,7 @@ read-list-requires c κs =
 returns-2 : tie.Need-returns-2
 returns-2 c =
     let e = c .before .before .before .before .before .before .before in
-    list-refused _ _ _ (known e) _ _ (c .before .before .before .before .read-list .ensures) (c .before .if2 .taken) _ _ (c .refused .ensures .0) (c .refused .ensures .1) _
+    list-refused _ _ _ (known e) _ _ (c .before .before .before .before .read-list .ensures) (c .before .if2 .taken) _ _ _ (c .refused2 .ensures .0) (c .refused2 .ensures .1) _
 
 -- the list that was read names terms
 is-named : (c : tie.Else2) → let e = c .before .before .before .before .before .before in let n = e .before .before .before .before .decode .result .terms in
@@ -79,8 +80,8 @@ invert-requires c κs =
 returns-3 : tie.Need-returns-3
 returns-3 c =
     let e = c .before .before .before .before .before .before .before .before .before .before .before .before .before in
-    list-twice _ _ _ (known e) _ (long-list (c .before .before .before .before .before .before .before)) (is-named (c .before .before .before .before .before .before .before)) (sym (c .before .before .before .before .invert .ensures .0) ∙ not-true _ (c .before .if3 .taken)) _ _
-    (c .refused2 .ensures .0) (c .refused2 .ensures .1) _
+    list-twice _ _ _ (known e) _ (long-list (c .before .before .before .before .before .before .before)) (is-named (c .before .before .before .before .before .before .before)) (sym (c .before .before .before .before .invert .ensures .0) ∙ not-true _ (c .before .if3 .taken)) _ _ _
+    (c .refused3 .ensures .0) (c .refused3 .ensures .1) _
 
 move-terms-requires : tie.Need-move-terms-requires
 move-terms-requires c κs =
@@ -91,27 +92,29 @@ move-terms-requires c κs =
           (inverse .before .before .before .invert .kept .1 .1 .0 ∙ places-room (s .pre .1)),
       omega (arith, decoded-few _ _ (known e), moved-room (s .pre .1)),
       moved-blank (s .pre .1),
+      omega (arith, decoded-few _ _ (known e), s .pre .0 .terms),
     )
 
 returns-4 : tie.Need-returns-4
 returns-4 c =
-    let e = c .before .before .before .before .before .before .before .before .before .before .before .before .before .before .before .before .before .before .before .before .before in
-    let inverse = c .before .before .before .before .before .before .before .before .before in
-    not-lower _ _ _ (known e) _ (long-list (c .before .before .before .before .before .before .before .before .before .before .before .before .before .before .before)) (is-named (c .before .before .before .before .before .before .before .before .before .before .before .before .before .before .before)) (once inverse) _ (inverse .before .before .before .invert .ensures .1 (not-false _ (inverse .if3 .left)))
-    (sym (c .before .before .before .before .move-terms .ensures .0) ∙ not-true _ (c .before .if4 .taken)) _ _ (c .refused3 .ensures .0) (c .refused3 .ensures .1) _
+    let e = c .before .before .before .before .before .before .before .before .before .before .before .before .before .before .before .before .before .before .before .before .before .before in
+    let inverse = c .before .before .before .before .before .before .before .before .before .before in
+    not-lower _ _ _ (known e) _ (long-list (c .before .before .before .before .before .before .before .before .before .before .before .before .before .before .before .before)) (is-named (c .before .before .before .before .before .before .before .before .before .before .before .before .before .before .before .before)) (once inverse) _ (inverse .before .before .before .invert .ensures .1 (not-false _ (inverse .if3 .left)))
+    (sym (c .before .before .before .before .before .move-terms .ensures .0) ∙ not-true _ (c .before .if4 .taken)) _ _ _ (c .refused4 .ensures .0) (c .refused4 .ensures .1) _
 
 returns-5 : tie.Need-returns-5
 returns-5 c =
-    let e = c .before .before .before .before .before .before .before .before .before .before .before .before .before .before .before .before .before .before .before .before in
-    let inverse = c .before .before .before .before .before .before .before .before in
-    let moved = c .before .before .before .move-terms .ensures in
-    all-restored _ _ _ (known e) _ (long-list (c .before .before .before .before .before .before .before .before .before .before .before .before .before .before)) (is-named (c .before .before .before .before .before .before .before .before .before .before .before .before .before .before)) (once inverse) _ (inverse .before .before .before .invert .ensures .1 (not-false _ (inverse .if3 .left)))
-    (sym (moved .0) ∙ not-false _ (c .if4 .left)) _ _ (start e .pre .1 .moved-zero) (moved .1) _ (e .if1 .left)
+    let e = c .before .before .before .before .before .before .before .before .before .before .before .before .before .before .before .before .before .before .before .before .before in
+    let inverse = c .before .before .before .before .before .before .before .before .before in
+    let moved = c .before .before .before .before .move-terms .ensures in
+    all-restored _ _ _ (known e) _ (long-list (c .before .before .before .before .before .before .before .before .before .before .before .before .before .before .before)) (is-named (c .before .before .before .before .before .before .before .before .before .before .before .before .before .before .before)) (once inverse) _ (inverse .before .before .before .invert .ensures .1 (not-false _ (inverse .if3 .left)))
+    (sym (moved .0) ∙ not-false _ (c .if4 .left)) _ _ (start e .pre .1 .moved-zero) (moved .1 .1) _ (moved .1 .0)
 
 pub decode-restored-spec : {M : Type 1} → statement M
 decode-restored-spec =
     tie.close
     (tie.spec
+    (λ c κs. search needs)
     (λ c κs. search needs)
     (λ c. search needs)
     returns

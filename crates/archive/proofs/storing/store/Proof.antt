@@ -17,7 +17,7 @@ use Rattle.book.proofs.encode.BookHeld.{held-encodable, held-few}
 use Rattle.book.proofs.encode.Copied.{Decoded, book-decoded, decoded-few}
 use Rattle.archive.specs.list.Listed.{Inverse}
 use Rattle.archive.proofs.moving.Held.{held-rows}
-use Rattle.archive.proofs.storing.Storing.{listed-room, places-room, moved-room, moved-blank, store-refused, listed-long, listed-low, distinct, small-list, lists-moved, stored-held, stored-written}
+use Rattle.archive.proofs.storing.Storing.{listed-room, places-room, moved-room, moved-blank, store-refused, listed-long, listed-low, distinct, small-list, lists-moved, stored-held, stored-bytes, stored-written}
 use Rattle.archive.proofs.storing.store.Statement.{statement}
 use Rattle.archive.proofs.storing.store.Tie as tie
 
@@ -69,6 +69,7 @@ move-terms-requires c κs =
       lists-moved _ _ (known e) (s .pre .0) _ _ (s .pre .1 .listed-zero) list _ room,
       omega (arith, decoded-few _ _ (known e), moved-room (s .pre .1)),
       moved-blank (s .pre .1),
+      omega (arith, decoded-few _ _ (known e), s .pre .0 .terms),
     )
 
 write-both-requires : tie.Need-write-both-requires
@@ -76,19 +77,23 @@ write-both-requires c κs =
     let e = c .before .before .before .before .before .before .before .before .before .before .before .before .before .before .before .before .before .before .before .before .before .before .before .before in
     let s = start e in
     let list = c .before .before .before .before .before .before .before .before .before .before .before .before .before .before .before .before .before .before .before .before .variables-first .ensures in
-    let h = stored-held _ _ (known e) (s .pre .0) _ _ (s .pre .1 .listed-zero) list _ (places (c .before .before .before .before .before .before .before .before .before .before .before .before .before .before .before)) _ _ (s .pre .1 .moved-zero) (c .before .before .before .before .before .before .before .before .move-terms .ensures .1) in (
+    let h = stored-held _ _ (known e) (s .pre .0) _ _ (s .pre .1 .listed-zero) list _ (places (c .before .before .before .before .before .before .before .before .before .before .before .before .before .before .before)) _ _ (s .pre .1 .moved-zero) (c .before .before .before .before .before .before .before .before .move-terms .ensures .1 .1) in (
       held-encodable h,
       omega (arith, held-few h),
+      stored-bytes _ _ (known e) (s .pre .0) _ _ (s .pre .1 .listed-zero) list _ (places (c .before .before .before .before .before .before .before .before .before .before .before .before .before .before .before)) _ _ (s .pre .1 .moved-zero) (c .before .before .before .before .before .before .before .before .move-terms .ensures .1 .1) (c .before .before .before .before .before .before .before .before .move-terms .ensures .1 .0),
       omega (arith, decoded-few _ _ (known e), listed-long _ _ (known e) (s .pre .0) _ _ (s .pre .1 .listed-zero) list),
       small-list _ _ (known e) (s .pre .0) _ _ (s .pre .1 .listed-zero) list,
     )
+
+same-length-2 : tie.Need-same-length-2
+same-length-2 c = c .before .before .before .before .before .before .before .before .before .before .before .before .before .before .before .before .before .before .before .before .before .before .before .before .before .before .before .before .before .before .before .before .decode .kept .1 .1 .0
 
 returns-2 : tie.Need-returns-2
 returns-2 c =
     let e = c .before .before .before .before .before .before .before .before .before .before .before .before .before .before .before .before .before .before .before .before .before .before .before .before .before .before .before .before .before in
     let s = start e in
     let list = c .before .before .before .before .before .before .before .before .before .before .before .before .before .before .before .before .before .before .before .before .before .before .before .before .before .variables-first .ensures in
-    stored-written _ _ (known e) (s .pre .0) _ _ (s .pre .1 .listed-zero) list _ (places (c .before .before .before .before .before .before .before .before .before .before .before .before .before .before .before .before .before .before .before .before)) _ _ (s .pre .1 .moved-zero) (c .before .before .before .before .before .before .before .before .before .before .before .before .before .move-terms .ensures .1) _ _
+    stored-written _ _ (known e) (s .pre .0) _ _ (s .pre .1 .listed-zero) list _ (places (c .before .before .before .before .before .before .before .before .before .before .before .before .before .before .before .before .before .before .before .before)) _ _ (s .pre .1 .moved-zero) (c .before .before .before .before .before .before .before .before .before .before .before .before .before .move-terms .ensures .1 .1) _ _
     (c .before .before .before .before .write-both .ensures)
 
 pub store-spec : {M : Type 1} → statement M
@@ -103,7 +108,7 @@ store-spec =
     invert-requires
     move-terms-requires
     write-both-requires
-    (λ c. search needs)
+    same-length-2
     (λ c. search needs)
     (λ c. search needs)
     (λ c. search needs)

@@ -11,7 +11,7 @@ use Rattle.archive.proofs.storing.write_both.Statement.{statement}
 use Rattle.archive.proofs.storing.write_both.Tie as tie
 
 returns : tie.Need-returns
-returns c = first-short _ _ _ _ (rw (c .before .encoded-length .ensures) at (c .if1 .taken))
+returns c = first-short _ _ _ _ (rw (c .before .before .before .before .before .pre .2) at (c .if1 .taken))
 
 returns-2 : tie.Need-returns-2
 unfolding runBytes
@@ -19,7 +19,7 @@ returns-2 c = second-short _ _ _ _ (rw (c .before .run-length .ensures) at (c .i
 
 cast-list-written : tie.Need-cast-list-written
 cast-list-written c =
-    let s = c .before .before .before .before .before .before .before .before .before .before .before .before .before .before .before .before in
+    let s = c .before .before .before .before .before .before .before .before .before .before .before .before .before .before .before in
     omega (arith, c .before .before .put-run .ensures .0, run-bound (now (s .args .listed)) 0 (s .args .n), encodable-terms (now (s .args .rows)) (s .args .n) (s .pre .0))
 
 returns-3 : tie.Need-returns-3
@@ -29,14 +29,13 @@ returns-3 c =
     let second = c .before .before .before .before .before .before .before .before in
     let encode = c .before .before .before .before .before .before .encode .ensures in
     let list = laid-front _ _ _ _ (c .before .before .put-run .ensures) in
-    both-whole _ _ _ _ (rw (first .before .encoded-length .ensures) at (first .if1 .left))
+    both-whole _ _ _ _ (rw (first .before .before .before .before .before .pre .2) at (first .if1 .left))
     (rw (second .before .run-length .ensures) at (second .if2 .left)) _ _ _ _ (encode .0) (encode .1) (list .0) (list .1)
 
 pub write-both-spec : {M : Type 1} → statement M
 write-both-spec =
     tie.close
     (tie.spec
-    (λ c κs. search needs)
     returns
     (λ c κs. search needs)
     returns-2

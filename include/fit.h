@@ -32,7 +32,7 @@ extern "C" {
 #endif
 
 /* The number of this interface. It changes with every change that may break a program: a call, a refusal, a limit, a field, the
-   bytes of a book, a report or an area. */
+   bytes of a book, a list, a report or an area. */
 #define FIT_INTERFACE 1
 
 /* What a call returns. Of the tests of a call the first that fails decides; each call below lists its own in their order. */
@@ -179,19 +179,20 @@ uint32_t fit_copy_book(const uint8_t *book, size_t book_length, uint8_t *out, si
 
 /* Stores a book, with no area: writes to the front of out the book with its variables first, in their old order, then its other terms in
    theirs, arguments renumbered; and to the front of list, for each new number in turn, the old one, as numbers of the same form and
-   nothing else. Gives in *written how many bytes the book has, in *list_written how many the list. The stored book opens; it can be longer
-   than the book (603 bytes became 753), whose length is therefore not enough for out. Refuses the book as fit_open does, then with
-   FIT_TOO_SHORT where either output is too short: neither is written then. */
+   nothing else. Gives in *written how many bytes the stored book has, in *list_written how many the list. The stored book opens; it can be
+   longer than the book (603 bytes became 753), whose length is therefore not enough for out. Refuses the book as fit_open does, then
+   with FIT_TOO_SHORT where either output is too short: neither is written then. */
 uint32_t fit_store_book(const uint8_t *book, size_t book_length, uint8_t *out, size_t out_length, uint8_t *list, size_t list_length,
                         uint32_t *written, uint32_t *list_written);
 
 /* Restores a book, with no area: writes to the front of out the book in which each term of the given one has its old number, which is
    the number that the list has in its place, arguments renumbered; and in *written how many bytes it has. From what fit_store_book wrote,
    with the two lengths that it gave, these are the bytes of the book that was stored. Any other book that opens and list that names each
-   of its terms once will do, exactly where the restored book opens. Refuses the book as fit_open does; then the list, of which as many
-   numbers are read, one by one, as the book has terms, with FIT_CUT, FIT_BAD_NUMBER; after the last with FIT_LEFT_OVER; then with
-   FIT_NAMES_NOTHING where any of them is no term, FIT_NAMED_TWICE, FIT_NOT_LOWER (in the restored book), FIT_TOO_SHORT. The list of a
-   book without terms has length 0. */
+   of its terms once will do, exactly where the restored book opens; so an altered list, or another book's, may be accepted, and a stored
+   book and its list get one checksum. Refuses the book as fit_open does; then the list, of which as many numbers are read, one by one, as
+   the book has terms, with FIT_CUT, FIT_BAD_NUMBER; after the last with FIT_LEFT_OVER; then with FIT_NAMES_NOTHING where any of them
+   is no term, FIT_NAMED_TWICE, FIT_NOT_LOWER (in the restored book), FIT_TOO_SHORT. The list of a book without terms has length 0, and a
+   pointer that is not null all the same. */
 uint32_t fit_restore_book(const uint8_t *book, size_t book_length, const uint8_t *list, size_t list_length, uint8_t *out, size_t out_length,
                           uint32_t *written);
 

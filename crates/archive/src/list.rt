@@ -13,7 +13,7 @@ ghost use Rattle.layout.specs.limits.Rows.{at, bookOf};
 ghost use Rattle.book.specs.parse.Parts.{outcome};
 ghost use Rattle.archive.specs.list.Listed.{ofKind, parseNamed, Inverse};
 
-// Appends the terms of one kind, the variables or the others, to the first `next` numbers of the list, and gives the place behind them.
+// Lists the terms of one kind, the variables or the others, from place `start` on, in rising number, and gives the place behind them.
 fn append_kind(rows: &[u32], n: usize, variables: bool, listed: &mut [u32], start: usize) -> usize
     requires { ⌜ (termWords * n ≤ length (now rows)) × (n ≤ 4294967295) × (start + length (ofKind (now rows) variables n) ≤ length (now listed)) ⌝ }
     ensures next { λ r. ⌜ r ≡ start + length (ofKind (now (rows .entry)) variables n) ⌝ }

@@ -33,12 +33,12 @@ extern "C" {
 
 /* The number of this interface. It changes with every change that may break a program: a call, a refusal, a limit, a field, the
    bytes of a book, a list, a report or an area. */
-#define FIT_INTERFACE 1
+#define FIT_INTERFACE 2
 
 /* What a call returns. Of the tests of a call the first that fails decides; each call below lists its own in their order. */
 enum {
     FIT_OK = 0,              /* accepted */
-    FIT_CUT = 1,             /* the bytes of a book or list end before a number, or after one or two bytes of an unfinished one */
+    FIT_CUT = 1,             /* a book of a byte or more, or a list, ends before a number, or after one or two bytes of an unfinished one */
     FIT_BAD_NUMBER = 2,      /* a number of a book or list is not in shortest form, has 0x80 set in its third byte, or is above 65,535 */
     FIT_LEFT_OVER = 3,       /* bytes after the last term of a book, or after the last number of a list */
     FIT_OUT_OF_RANGE = 4,    /* a number of terms, a symbol, a count of arguments or a capacity is out of range */
@@ -134,7 +134,12 @@ enum { FIT_OPEN_PLACE = 0, FIT_COMMON = 1 };
 
 /* The bytes of a book are numbers: the number of terms; for each term 0 for a variable, or symbol plus 1, the count of its arguments
    and their term numbers. A number is written seven bits to a byte, the lowest first, with 0x80 set in each byte but the last: one byte
-   below 128, two below 16,384, at most three, always as few as will do. */
+   below 128, two below 16,384, at most three, always as few as will do.
+
+   A book of no bytes, such as an empty file, is the book without terms, as the book 00 is: no test of a book refuses it. Its length is 0,
+   its pointer not null all the same: an empty file is read into an array of at least one byte. (A failed read gives no bytes either: see to
+   that first.) Written from an area, copied, stored and restored it is 00. So this is the one book that comes back with other bytes than
+   were read, and with more. */
 
 /* The length in bytes that an area of this capacity needs; 0 for a capacity that is not 1 to FIT_MAX_CAPACITY. */
 size_t fit_area_length(uint32_t capacity);
@@ -142,7 +147,7 @@ size_t fit_area_length(uint32_t capacity);
 /* Opens a book in an area, whatever that held, with no entries, no lines and nothing bound. Refuses with FIT_OUT_OF_RANGE (the
    capacity), FIT_NOT_SOUND (the area is too short), then the book: its numbers are read one by one, and the first bad one decides,
    FIT_CUT, FIT_BAD_NUMBER, FIT_OUT_OF_RANGE, for a count then FIT_TWO_COUNTS, for an argument FIT_NOT_LOWER; after the last
-   FIT_LEFT_OVER. */
+   FIT_LEFT_OVER. A book of no bytes has no numbers, and leaves the area that the book 00 leaves. */
 uint32_t fit_open(uint32_t capacity, const uint8_t *book, size_t book_length, uint8_t *area, size_t area_length);
 
 /* Adds the line of the terms l and r, in this order; lines are numbered from 0 as they are added. Gives the line's entry in *entry: the
@@ -169,30 +174,31 @@ uint32_t fit_entry(const uint8_t *area, size_t area_length, uint32_t i, uint32_t
    none other is in it. Refuses with FIT_NOT_SOUND, FIT_TOO_SHORT. */
 uint32_t fit_report(const uint8_t *area, size_t area_length, uint8_t *out, size_t out_length, uint32_t *written);
 
-/* Writes the area's book, the bytes from which it was opened, to the front of out, and in *written how many; bindings are not among
-   them. Refuses with FIT_NOT_SOUND, FIT_TOO_SHORT. */
+/* Writes the area's book, the bytes from which it was opened (00 for a book of no bytes), to the front of out, and in *written how many;
+   bindings are not among them. Refuses with FIT_NOT_SOUND, FIT_TOO_SHORT. */
 uint32_t fit_write(const uint8_t *area, size_t area_length, uint8_t *out, size_t out_length, uint32_t *written);
 
-/* Reads a book and writes it to the front of out, with no area, and in *written how many bytes it has. Refuses the book as fit_open
-   does, then with FIT_TOO_SHORT: so with out_length 0 that is the answer for every book that would open. */
+/* Reads a book and writes it to the front of out, with no area, and in *written how many bytes were written: the book's own bytes, so its
+   length is enough for out, but for a book of no bytes, whose copy is 00 and needs one byte. Refuses the book as fit_open does, then with
+   FIT_TOO_SHORT: so with out_length 0 that is the answer for every book that would open. */
 uint32_t fit_copy_book(const uint8_t *book, size_t book_length, uint8_t *out, size_t out_length, uint32_t *written);
 
 /* Stores a book, with no area: writes to the front of out the book with its variables first, in their old order, then its other terms in
    theirs, arguments renumbered; and to the front of list, for each new number in turn, the old one, as numbers of the same form and
    nothing else. Gives in *written how many bytes the stored book has, in *list_written how many the list. The stored book opens; it can be
-   longer than the book (603 bytes became 753), whose length is therefore not enough for out. Refuses the book as fit_open does, then
-   with FIT_TOO_SHORT where either output is too short: neither is written then. */
+   longer than the book (603 bytes became 753, and none become 00), whose length is therefore not enough for out. Refuses the book as
+   fit_open does, then with FIT_TOO_SHORT where either output is too short: neither is written then. */
 uint32_t fit_store_book(const uint8_t *book, size_t book_length, uint8_t *out, size_t out_length, uint8_t *list, size_t list_length,
                         uint32_t *written, uint32_t *list_written);
 
 /* Restores a book, with no area: writes to the front of out the book in which each term of the given one has its old number, which is
    the number that the list has in its place, arguments renumbered; and in *written how many bytes it has. From what fit_store_book wrote,
-   with the two lengths that it gave, these are the bytes of the book that was stored. Any other book that opens and list that names each
-   of its terms once will do, exactly where the restored book opens; so an altered list, or another book's, may be accepted, and a stored
-   book and its list get one checksum. Refuses the book as fit_open does; then the list, of which as many numbers are read, one by one, as
-   the book has terms, with FIT_CUT, FIT_BAD_NUMBER; after the last with FIT_LEFT_OVER; then with FIT_NAMES_NOTHING where any of them
-   is no term, FIT_NAMED_TWICE, FIT_NOT_LOWER (in the restored book), FIT_TOO_SHORT. The list of a book without terms has length 0, and a
-   pointer that is not null all the same. */
+   with the two lengths that it gave, these are the bytes of the book that was stored (00 for a book of no bytes). Any other book that opens
+   and list that names each of its terms once will do, exactly where the restored book opens; so an altered list, or another book's, may be
+   accepted, and a stored book and its list get one checksum. Refuses the book as fit_open does; then the list, of which as many numbers are
+   read, one by one, as the book has terms, with FIT_CUT, FIT_BAD_NUMBER; after the last with FIT_LEFT_OVER; then with FIT_NAMES_NOTHING
+   where any of them is no term, FIT_NAMED_TWICE, FIT_NOT_LOWER (in the restored book), FIT_TOO_SHORT. The list of a book without terms has
+   length 0, and a pointer that is not null all the same. */
 uint32_t fit_restore_book(const uint8_t *book, size_t book_length, const uint8_t *list, size_t list_length, uint8_t *out, size_t out_length,
                           uint32_t *written);
 

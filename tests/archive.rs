@@ -1,7 +1,7 @@
 //! Compares storing and restoring a book, through the C interface, with the second implementation: the answers, every byte of both
-//! outputs, and that book and list stay as they were. What is stored is also restored by its list, and must be the book again. Books and
-//! lists are valid or damaged. Every case is made from its own seed, which is printed where the two differ. It counts what the cases
-//! were made of (archive_census.rs), and fails where some kind of case never occurs.
+//! outputs, and that book and list stay as they were. What is stored is also restored by its list, and must be the book again, or 00 where
+//! that has no bytes. Books and lists are valid or damaged. Every case is made from its own seed, which is printed where the two differ.
+//! It counts what the cases were made of (archive_census.rs), and fails where some kind of case never occurs.
 
 mod bases;
 #[macro_use]
@@ -17,8 +17,8 @@ mod samples;
 
 use archive_census::{Census, Kind};
 use lent::Lent;
-use reference::{are_distinct, arguments_are_lower, decode, decode_numbers, encode, first_seed, restore_book, restored_terms, store_book};
-use reference::{stored_bytes, times, Answer, Random, Term, OFFICE};
+use reference::{are_distinct, arguments_are_lower, bytes_of, decode, decode_numbers, encode, first_seed, restore_book, restored_terms};
+use reference::{store_book, stored_bytes, times, written_back, Answer, Random, Term, OFFICE};
 use samples::Tally;
 
 const CASES: u64 = 150_000;
@@ -81,6 +81,7 @@ fn store_case(random: &mut Random, book: &[u8], census: &mut Census) -> Result<(
     }
     let (stored, list) = (&out[..needed[0]], &list[..needed[1]]);
     census.stored(book, stored, list);
+    let book = written_back(book);
     let (answer, restored) = restore(stored, list, book.len(), random.next() as u8)?;
     census.note(Kind::StoredRestored, true);
     if answer.refusal != 0 || restored != book {
@@ -112,7 +113,7 @@ fn restore_case(random: &mut Random, terms: Vec<Term>, book: &[u8], census: &mut
 fn run_case(seed: u64, census: &mut Census) -> Result<(), String> {
     let random = &mut Random(seed);
     let terms = lists::random_terms(random);
-    let mut book = encode(&terms);
+    let mut book = bytes_of(random, &terms);
     if random.below(6) == 0 {
         lists::blemish(random, &mut book);
     }

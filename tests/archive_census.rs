@@ -1,6 +1,7 @@
 //! Counts what was stored and restored, so that a comparison fails where some kind of case never occurred.
 
-use crate::reference::{arguments_are_lower, decode, decode_numbers, Answer, Term, OFFICE};
+use crate::kinds;
+use crate::reference::{arguments_are_lower, decode, decode_numbers, written_back, Answer, Term, OFFICE};
 
 /// The calls and their parts, and the answers that docs/SPEC.md gives each: 0 and its refusals.
 const CALLS: [(&str, &[usize]); 3] = [
@@ -16,7 +17,10 @@ kinds! {
     StoredInRings, "a stored book with a list that is not its own inverse";
     StoredLonger, "a stored book longer than the book";
     StoredShorter, "a stored book shorter than the book";
-    StoredNoTerms, "a book without terms stored";
+    StoredNoTerms, "book 00 stored";
+    StoredNoBytes, "a book of no bytes stored, into no output for the list";
+    StoredNoBytesLonger, "a book of no bytes stored, into longer outputs";
+    NoBytesNotStored, "storing a book of no bytes refused with 13";
     StoredOnlyVariables, "a book of variables alone stored";
     StoredNoVariables, "a book without variables stored";
     StoredFull, "a book of 1,024 terms stored";
@@ -56,7 +60,12 @@ kinds! {
     RestoredInRings, "a book restored by a list that is not its own inverse";
     RestoredAny, "a book restored in which a variable stands behind another term";
     RestoredLonger, "a restored book longer than the book";
-    RestoredNoTerms, "a book without terms restored";
+    RestoredNoTerms, "book 00 restored";
+    RestoredNoBytes, "a book of no bytes restored";
+    NoBytesNotRestored, "restoring a book of no bytes refused with 13";
+    NoBytesNumber, "a list refused with 3 beside a book of no bytes, and it begins with a number";
+    NoBytesNoNumber, "a list refused with 3 beside a book of no bytes, and it begins with no number";
+    EmptyList, "a list of no bytes beside a book with terms";
     RestoredFull, "a book of 1,024 terms restored";
 }
 
@@ -79,6 +88,9 @@ impl Census {
     pub fn store(&mut self, book: &[u8], needed: [usize; 2], lengths: [usize; 2], answer: &Answer) {
         self.answers[0][answer.refusal as usize] += 1;
         self.note(Kind::TermsAbove, answer.refusal == 4 && book.starts_with(&[0x81, 0x08]));
+        self.note(Kind::StoredNoBytes, answer.refusal == 0 && book.is_empty() && lengths[1] == 0);
+        self.note(Kind::StoredNoBytesLonger, answer.refusal == 0 && book.is_empty() && lengths[0] > 1 && lengths[1] > 0);
+        self.note(Kind::NoBytesNotStored, answer.refusal == 13 && book.is_empty());
         let short = [0, 1].map(|i| lengths[i] < needed[i]);
         if answer.refusal == 13 {
             self.note(Kind::BookShort, short == [true, false]);
@@ -102,9 +114,9 @@ impl Census {
         self.note(Kind::StoredInPlace, list.is_sorted() && !list.is_empty());
         self.note(Kind::StoredInPairs, is_own_inverse(&list) && !list.is_sorted());
         self.note(Kind::StoredInRings, !is_own_inverse(&list));
-        self.note(Kind::StoredLonger, stored.len() > book.len());
+        self.note(Kind::StoredLonger, stored.len() > written_back(book).len());
         self.note(Kind::StoredShorter, stored.len() < book.len());
-        self.note(Kind::StoredNoTerms, terms.is_empty());
+        self.note(Kind::StoredNoTerms, book == [0]);
         self.note(Kind::StoredOnlyVariables, variables == terms.len() && variables > 0);
         self.note(Kind::StoredNoVariables, variables == 0 && !terms.is_empty());
         self.note(Kind::StoredFull, terms.len() == OFFICE.terms);
@@ -117,6 +129,13 @@ impl Census {
             return self.note(Kind::BadListToo, decode_numbers(1, list) == Err(2));
         };
         self.answers[2][answer.refusal as usize] += 1;
+        if book.is_empty() {
+            self.note(Kind::RestoredNoBytes, answer.refusal == 0);
+            self.note(Kind::NoBytesNotRestored, answer.refusal == 13);
+            self.note(Kind::NoBytesNumber, answer.refusal == 3 && decode_numbers(1, list).is_ok());
+            self.note(Kind::NoBytesNoNumber, answer.refusal == 3 && decode_numbers(1, list).is_err());
+        }
+        self.note(Kind::EmptyList, list.is_empty() && answer.refusal == 1);
         let (numbers, rest) = front(terms.len(), list);
         match answer.refusal {
             1 | 2 => self.unread(&terms, &numbers, rest, answer.refusal),
@@ -178,8 +197,8 @@ impl Census {
         self.note(Kind::OutputLonger, length > needed);
         self.note(Kind::RestoredInRings, !is_own_inverse(numbers));
         self.note(Kind::RestoredAny, terms[variables..].iter().any(is_variable));
-        self.note(Kind::RestoredLonger, needed > book.len());
-        self.note(Kind::RestoredNoTerms, terms.is_empty());
+        self.note(Kind::RestoredLonger, needed > written_back(book).len());
+        self.note(Kind::RestoredNoTerms, book == [0]);
         self.note(Kind::RestoredFull, terms.len() == OFFICE.terms);
     }
 
@@ -192,9 +211,7 @@ impl Census {
             let counts: Vec<String> = (0..ANSWERS).filter(|&i| answers[i] > 0).map(|i| format!("{i}: {}", answers[i])).collect();
             println!("{what}, by answer: {}", counts.join(", "));
         }
-        for (what, number) in KINDS.iter().zip(&self.kinds) {
-            println!("{what}: {number}");
-        }
+        kinds::print(KINDS, &self.kinds);
     }
 
     /// Whether each call, and each part of it, gave every answer that it can give, and no other.
@@ -205,7 +222,7 @@ impl Census {
 
     /// The kinds of cases that did not occur.
     pub fn missing(&self) -> Vec<&'static str> {
-        KINDS.iter().zip(&self.kinds).filter(|(_, &number)| number == 0).map(|(&what, _)| what).collect()
+        kinds::missing(KINDS, &self.kinds)
     }
 }
 

@@ -12,7 +12,8 @@ mod reference;
 mod timing;
 
 use bases::Base;
-use reference::{perform, restore_book, store_book, stored_bytes, Answer, Call, Perform, Random, Restore, Store, Term, OFFICE};
+use reference::{copy_book, perform, restore_book, store_book, stored_bytes, Answer, Call, CopyBook, Perform, Random, Restore, Store};
+use reference::{Term, OFFICE};
 use std::hint::black_box;
 
 const RUNS: usize = 5;
@@ -66,19 +67,8 @@ fn call_row(what: &str, start: &[u8], call: Call) {
 }
 
 fn copy_row(book: &[u8]) {
-    let ours = |_: &mut [u8], out: &mut [u8]| {
-        let mut written = 0;
-        Answer::new(fit::copy_book(book, out, &mut written), &[written])
-    };
-    let lean = |_: &mut [u8], out: &mut [u8]| {
-        let (refusal, written) = lean::copy(book, out);
-        Answer::new(refusal, &[written])
-    };
-    let plain = |_: &mut [u8], out: &mut [u8]| {
-        let bytes = reference::encode(&reference::decode(OFFICE, book).unwrap());
-        out.copy_from_slice(&bytes);
-        Answer::new(0, &[bytes.len() as u32])
-    };
+    let [ours, lean, plain] =
+        [library::copy_book, lean::copy_book, copy_book as CopyBook].map(|copy| move |_: &mut [u8], out: &mut [u8]| copy(OFFICE, book, out));
     row("decoding and encoding", &[], book.len(), [&ours, &lean, &plain]);
 }
 
@@ -130,18 +120,24 @@ fn compare_lean() {
     }
 }
 
-/// The same of storing and restoring, on books and lists of which many are damaged.
-fn compare_lean_archive() {
+/// The same of opening, copying, storing and restoring, on books and lists of which many are damaged.
+fn compare_lean_books() {
     let mut random = Random(COMPARED as u64);
     for _ in 0..COMPARED {
         let terms = lists::random_terms(&mut random);
-        let mut book = reference::encode(&terms);
+        let mut book = reference::bytes_of(&mut random, &terms);
         if random.below(4) == 0 {
             lists::blemish(&mut random, &mut book);
         }
         let numbers = lists::random_list(&mut random, &terms);
         let list = lists::list_bytes(&mut random, &numbers);
         let (length, list_length) = (random.place(2 * book.len() + 2), random.place(2 * list.len() + 2));
+        let area = vec![0xFF; OFFICE.area_length(1)];
+        let [lean, plain] = [lean::perform as Perform, perform]
+            .map(|perform| result(&|area, out| perform(OFFICE, Call::Open { capacity: 1, book: &book }, area, out), &area, 0));
+        assert!(lean == plain, "opening: Rust on rows differs");
+        let [lean, plain] = [lean::copy_book, copy_book as CopyBook].map(|copy| result(&|_, out| copy(OFFICE, &book, out), &[], length));
+        assert!(lean == plain, "copying: Rust on rows differs");
         let [lean, plain] = [lean::store_book, store_book as Store]
             .map(|store| result(&|list, out| store(OFFICE, &book, out, list), &vec![0; list_length], length));
         assert!(lean == plain, "storing: Rust on rows differs");
@@ -164,7 +160,7 @@ fn show_look_back() {
 
 fn main() {
     compare_lean();
-    compare_lean_archive();
+    compare_lean_books();
     let book = reference::encode(&reference::random_book(&mut Random(1024), 1024));
     println!("a random book of 1,024 terms, {} bytes", book.len());
     for capacity in [1u32, 1024] {

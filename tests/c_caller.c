@@ -1,5 +1,5 @@
-/* The C interface as a C program meets it, through include/fit.h: the samples of docs/SPEC.md, every refusal of every call, and
-   each number of the header against the library or the definitions. What is lent lies between guard bytes. An accepted call may
+/* The C interface as a C program meets it, through include/fit.h: the samples of docs/SPEC.md, a book of no bytes, every refusal of every
+   call, and each number of the header against the library or the definitions. What is lent lies between guard bytes. An accepted call may
    write its part alone, a refused one no byte, and every number that a refused call answers is 0. Prints how many tests passed. */
 #include "fit.h"
 
@@ -59,7 +59,7 @@ struct book {
 };
 
 #define BYTES(...) {(const uint8_t[]){__VA_ARGS__}, sizeof((const uint8_t[]){__VA_ARGS__})}
-#define NO_BYTES {(const uint8_t *)"", 0}
+#define NO_BYTES {(const uint8_t *)"\xEE", 0} /* before a byte that is no book */
 
 /* Makes a call: a and b are its two numbers, or the capacity. */
 static uint32_t make(enum name name, const struct book *book, uint32_t a, uint32_t b, size_t area_length, size_t out_length)
@@ -117,17 +117,17 @@ static int takes(const struct step *step, uint32_t capacity)
         && kept_after(&area, needed) && kept_after(&out, 0);
 }
 
-/* A report, a book, or the copy of one is these bytes: 13 into any shorter output, and nothing behind them in a longer one. */
-static int puts_bytes(enum name name, const struct book *expected, size_t needed)
+/* A report, a book, or the copy of this one is these bytes: 13 into any shorter output, and nothing behind them in a longer one. */
+static int puts_bytes(enum name name, const struct book *book, const struct book *expected, size_t needed)
 {
     uint32_t written = (uint32_t)expected->length;
     size_t length;
     for (length = 0; length < expected->length; length++)
-        if (!refuses(FIT_TOO_SHORT, name, expected, 0, 0, needed, length))
+        if (!refuses(FIT_TOO_SHORT, name, book, 0, 0, needed, length))
             return 0;
     for (; length < expected->length + 3; length++) {
         memset(out.store, FILLING, sizeof out.store);
-        if (make(name, expected, 0, 0, needed, length) != 0 || !numbers_are(&written, 1) || !kept_after(&out, written)
+        if (make(name, book, 0, 0, needed, length) != 0 || !numbers_are(&written, 1) || !kept_after(&out, written)
             || memcmp(bytes_of(&out), expected->bytes, written) != 0 || !kept_after(&area, 0))
             return 0;
     }
@@ -137,7 +137,13 @@ static int puts_bytes(enum name name, const struct book *expected, size_t needed
 #define BOOK_A BYTES(6, 0, 4, 0, 2, 1, 0, 2, 1, 1, 3, 2, 2, 0, 3, 2, 3, 1)
 #define BOOK_B BYTES(5, 0, 0, 4, 0, 2, 1, 1, 2, 1, 2)
 
-static const struct book book_a = BOOK_A, book_b = BOOK_B;
+static const struct book book_a = BOOK_A, book_b = BOOK_B, no_terms = BYTES(0), no_bytes = NO_BYTES;
+
+/* What is written for a book that opens: its bytes, but 00 where it has none. */
+static const struct book *as_written(const struct book *book)
+{
+    return book->length == 0 ? &no_terms : book;
+}
 
 /* A sample: its steps, the report afterwards, and all entries. */
 struct sample {
@@ -167,6 +173,7 @@ static const struct sample samples[] = {
     {"B4", BOOK_B, CAPACITY, 1, {{ADD, 1, 1, FIT_OK, {0}}}, BYTES(1, 0, 1, 1, 1, 0), 1, {{1, 1}}},
     {"B5", BOOK_B, CAPACITY, 2, {{BIND, 0, 1, FIT_OK, {0, 0}}, {BIND, 1, 0, FIT_OCCURS, {0}}}, BYTES(0, 0), 0, {{0}}},
     {"Z1", BYTES(0), CAPACITY, 0, {{OPEN, 0, 0, FIT_OK, {0}}}, BYTES(0, 0), 0, {{0}}},
+    {"Z1 of no bytes", NO_BYTES, CAPACITY, 0, {{OPEN, 0, 0, FIT_OK, {0}}}, BYTES(0, 0), 0, {{0}}},
 };
 
 static int holds_sample(const struct sample *sample)
@@ -182,8 +189,8 @@ static int holds_sample(const struct sample *sample)
     for (i = 0; i < sample->entries; i++)
         if (make(ENTRY, NULL, i, 0, needed, 0) != 0 || !numbers_are(sample->fields[i], FIT_FIELDS) || !kept_after(&area, 0))
             return 0;
-    return refuses(FIT_NAMES_NOTHING, ENTRY, NULL, sample->entries, 0, needed, 0) && puts_bytes(REPORT, &sample->report, needed)
-        && puts_bytes(WRITE, &sample->book, needed);
+    return refuses(FIT_NAMES_NOTHING, ENTRY, NULL, sample->entries, 0, needed, 0) && puts_bytes(REPORT, NULL, &sample->report, needed)
+        && puts_bytes(WRITE, NULL, as_written(&sample->book), needed);
 }
 
 /* Books that are refused, by opening and by copying: numbers 1 to 6, with each of the ranges of 4. */
@@ -192,6 +199,9 @@ static const struct {
     uint32_t refusal;
 } refused_books[] = {
     {BYTES(0x01), FIT_CUT},
+    {BYTES(0x80), FIT_CUT}, /* within the first number */
+    {BYTES(0x80, 0x80), FIT_CUT},
+    {BYTES(0x02, 0x00), FIT_CUT},              /* before the second term */
     {BYTES(0x80, 0x00), FIT_BAD_NUMBER},       /* not the shortest form */
     {BYTES(0x80, 0x80, 0x80), FIT_BAD_NUMBER}, /* 80 set in the third byte */
     {BYTES(0x80, 0x80, 0x04), FIT_BAD_NUMBER}, /* 65,536 */
@@ -258,6 +268,21 @@ static void test(const char *what, size_t row, int holds)
 
 #define COUNT(table) (sizeof(table) / sizeof *(table))
 
+static int refuses_opening(size_t i, const struct book *book)
+{
+    return refuses(refused_openings[i].refusal, OPEN, book, refused_openings[i].capacity, 0, refused_openings[i].area_length, 0);
+}
+
+/* A book of no bytes leaves the area that the book 00 leaves. */
+static int opens_as_no_terms(uint32_t capacity)
+{
+    static uint8_t other[sizeof area.store];
+    if (!opens(&no_terms, capacity))
+        return 0;
+    memcpy(other, area.store, sizeof other);
+    return opens(&no_bytes, capacity) && memcmp(other, area.store, sizeof other) == 0;
+}
+
 static void test_books(void)
 {
     const struct book *book;
@@ -270,8 +295,12 @@ static void test_books(void)
         test("refused by fit_copy_book", i, refuses(refused_books[i].refusal, COPY, book, 0, 0, 0, MOST));
     }
     for (i = 0; i < COUNT(refused_openings); i++)
-        test("refused opening", i, refuses(refused_openings[i].refusal, OPEN, &book_a, refused_openings[i].capacity, 0, refused_openings[i].area_length, 0));
-    test("copied", 0, puts_bytes(COPY, &book_a, 0));
+        test("refused opening", i, refuses_opening(i, &book_a) && refuses_opening(i, &no_bytes));
+    test("copied", 0, puts_bytes(COPY, &book_a, &book_a, 0));
+    test("copied", 1, puts_bytes(COPY, &no_terms, &no_terms, 0));
+    test("copied", 2, puts_bytes(COPY, &no_bytes, &no_terms, 0));
+    test("no bytes opened", 1, opens_as_no_terms(1));
+    test("no bytes opened", CAPACITY, opens_as_no_terms(CAPACITY));
 }
 
 static void test_calls(void)
@@ -382,8 +411,6 @@ static void test_limits(void)
 /* STORING AND RESTORING, which use no area. What is read lies between guard bytes too, so that it is seen to stay. */
 static struct lent given, list;
 
-static const struct book no_bytes = NO_BYTES;
-
 /* Fills a store, with these bytes at the front of what is lent. */
 static void fill(struct lent *b, const struct book *bytes)
 {
@@ -439,22 +466,28 @@ static int restores(const struct book *book, const struct book *listed, const st
         && kept_after(&out, length) && memcmp(bytes_of(&out), restored->bytes, length) == 0;
 }
 
-/* The book is stored as these bytes, and restored from them: in outputs of just their lengths, in longer ones and in those that always
-   suffice, and in none where one is shorter. */
+/* Restored as these bytes, in an output of just their length, in longer ones and in one that always suffices, and in no shorter one. */
+static int restores_in_any(const struct book *book, const struct book *listed, const struct book *restored)
+{
+    size_t length;
+    int holds = restores(book, listed, restored, restored->length) && restores(book, listed, restored, restored->length + 1)
+        && restores(book, listed, restored, FIT_BOOK_BYTES);
+    for (length = 0; length < restored->length; length++)
+        holds = holds && refuses_to_restore(FIT_TOO_SHORT, book, listed, length);
+    return holds;
+}
+
+/* The book is stored as these bytes, in such outputs too, and restored from them. */
 static int stored_and_restored(const struct book *book, const struct book *stored, const struct book *listed)
 {
     size_t length;
     int holds = stores(book, stored, listed, stored->length, listed->length) && stores(book, stored, listed, stored->length + 1, listed->length)
-        && stores(book, stored, listed, stored->length, listed->length + 3)
-        && stores(book, stored, listed, FIT_BOOK_BYTES, FIT_LIST_BYTES) && restores(stored, listed, book, book->length)
-        && restores(stored, listed, book, book->length + 1) && restores(stored, listed, book, FIT_BOOK_BYTES);
+        && stores(book, stored, listed, stored->length, listed->length + 3) && stores(book, stored, listed, FIT_BOOK_BYTES, FIT_LIST_BYTES);
     for (length = 0; length < stored->length; length++)
         holds = holds && refuses_to_store(FIT_TOO_SHORT, book, length, listed->length);
     for (length = 0; length < listed->length; length++)
         holds = holds && refuses_to_store(FIT_TOO_SHORT, book, stored->length, length) && refuses_to_store(FIT_TOO_SHORT, book, 0, length);
-    for (length = 0; length < book->length; length++)
-        holds = holds && refuses_to_restore(FIT_TOO_SHORT, stored, listed, length);
-    return holds;
+    return holds && restores_in_any(stored, listed, as_written(book));
 }
 
 static const struct {
@@ -466,6 +499,7 @@ static const struct {
     {BYTES(2, 0, 0), BYTES(2, 0, 0), BYTES(0, 1)},
     {BYTES(2, 1, 0, 2, 1, 0), BYTES(2, 1, 0, 2, 1, 0), BYTES(0, 1)}, /* no variables */
     {BYTES(0), BYTES(0), NO_BYTES},                                  /* no terms: a list of no bytes, in an output of length 0 */
+    {NO_BYTES, BYTES(0), NO_BYTES},                                  /* no bytes: the same */
 };
 
 /* Lists of the book of a variable, a constant, and a symbol over that constant, which are refused, with an output of any length. */
@@ -511,6 +545,30 @@ static const struct {
     {BYTES(1, 0, 2), BYTES(3, 1, 0, 0, 2, 1, 0)},
     {BYTES(2, 0, 1), BYTES(3, 1, 0, 2, 1, 0, 0)},
 };
+
+/* Lists that no book without terms has: a byte is left over, whatever it is. */
+static const struct book left_over[] = {BYTES(0), BYTES(1), BYTES(0x80), BYTES(0x80, 0x00), BYTES(0x80, 0x80, 0x80), BYTES(0, 0)};
+
+/* A book without terms, as one byte or as none, is restored by a list of no bytes alone. */
+static int restores_no_terms(const struct book *book)
+{
+    size_t i;
+    int holds = restores_in_any(book, &no_bytes, &no_terms);
+    for (i = 0; i < COUNT(left_over); i++)
+        holds = holds && refuses_to_restore(FIT_LEFT_OVER, book, &left_over[i], MOST) && refuses_to_restore(FIT_LEFT_OVER, book, &left_over[i], 0);
+    return holds;
+}
+
+/* Where a book that opens breaks off after a byte or more, every call that takes a book refuses what is left as cut. */
+static int refuses_fronts(const struct book *book)
+{
+    struct book front = {book->bytes, 1};
+    int holds = 1;
+    for (; front.length < book->length; front.length++)
+        holds = holds && refuses(FIT_CUT, OPEN, &front, CAPACITY, 0, MOST, 0) && refuses(FIT_CUT, COPY, &front, 0, 0, 0, MOST)
+            && refuses_to_store(FIT_CUT, &front, MOST, MOST) && refuses_to_restore(FIT_CUT, &front, &no_bytes, MOST);
+    return holds;
+}
 
 /* What a list of three numbers from 0 to 3 is refused with: the constant takes its second number, the symbol over it the third. */
 static uint32_t refusal_of(const uint8_t n[3])
@@ -577,7 +635,7 @@ static int grows(uint32_t terms, uint32_t symbol, uint32_t count, uint32_t varia
 static void test_archive(void)
 {
     static const size_t grown[] = {603, 753, 472}, longest[] = {9977, 17137, 1920};
-    const struct book bad_list = BYTES(0x80, 0x00), half_a_number = BYTES(0x80), no_terms = BYTES(0);
+    const struct book bad_list = BYTES(0x80, 0x00);
     const struct book *book;
     size_t i;
     for (i = 0; i < COUNT(archive_samples); i++)
@@ -593,7 +651,10 @@ static void test_archive(void)
     for (i = 0; i < COUNT(refused_lists); i++)
         test("refused list", i, refuses_to_restore(refused_lists[i].refusal, &three_terms, &refused_lists[i].listed, MOST)
             && refuses_to_restore(refused_lists[i].refusal, &three_terms, &refused_lists[i].listed, 0));
-    test("list of no terms", 0, refuses_to_restore(FIT_LEFT_OVER, &no_terms, &half_a_number, MOST));
+    test("list of no terms", 0, restores_no_terms(&no_terms));
+    test("list of no terms", 1, restores_no_terms(&no_bytes));
+    test("fronts of a book", 0, refuses_fronts(&book_a));
+    test("fronts of a book", 1, refuses_fronts(&book_b));
     for (i = 0; i < COUNT(accepted_lists); i++)
         test("accepted list", i, restores(&three_terms, &accepted_lists[i].listed, &accepted_lists[i].restored, 7)
             && restores(&three_terms, &accepted_lists[i].listed, &accepted_lists[i].restored, MOST)

@@ -18,7 +18,7 @@ mod samples;
 use bases::Base;
 use census::{Census, Kind, Sight, EVERY_LENGTH};
 use lent::Lent;
-use reference::{decode, encode, first_seed, perform, times, Answer, Call, Random, Term, OFFICE};
+use reference::{bytes_of, decode, encode, first_seed, perform, times, Answer, Call, Random, Term, OFFICE};
 use samples::Tally;
 use std::thread;
 
@@ -130,8 +130,11 @@ fn random_terms(random: &mut Random) -> Vec<Term> {
     }
 }
 
-/// One byte of a book altered, left out or added, in a few cases.
+/// One byte of a book altered, left out or added, in a few cases; no bytes are left as they are.
 fn blemish(random: &mut Random, book: &mut Vec<u8>) {
+    if book.is_empty() {
+        return;
+    }
     let at = random.place(book.len());
     match random.below(128) {
         0 => book[at] = random.next() as u8,
@@ -178,7 +181,7 @@ impl List {
         let call = Call::Open { capacity, book };
         let (answer, _) = self.twins.call(call, 0, 0)?;
         census.answer(call, false, &answer);
-        census.opening(capacity, self.twins.sight(), &answer);
+        census.opening(capacity, book, self.twins.sight(), &answer);
         if answer.refusal == 0 {
             self.start(book, capacity, &[]);
         }
@@ -190,12 +193,14 @@ impl List {
         let mut terms = random_terms(random);
         terms.truncate(OFFICE.terms);
         let length = OFFICE.area_length(capacity) + random.place(9);
-        self.open(random, capacity, &encode(&terms), length, census)
+        let book = bytes_of(random, &terms);
+        self.open(random, capacity, &book, length, census)
     }
 
     /// Opens a book, mostly a valid one in an area that is long enough.
     fn open_any(&mut self, random: &mut Random, census: &mut Census) -> Result<bool, String> {
-        let mut book = encode(&random_terms(random));
+        let terms = random_terms(random);
+        let mut book = bytes_of(random, &terms);
         blemish(random, &mut book);
         let capacity = random_capacity(random);
         let needed = OFFICE.area_length(capacity);
@@ -266,6 +271,10 @@ impl List {
         census.answer(call, self.damaged, &answer);
         if answer.refusal != 7 {
             census.output(call, needed, length);
+        }
+        if matches!(call, Call::Write) && self.book.is_empty() && !self.damaged {
+            census.note(Kind::NoBytesWritten, answer.refusal == 0);
+            census.note(Kind::NoBytesNotWritten, answer.refusal == 13);
         }
         self.other_calls = true;
         Ok(())

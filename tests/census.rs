@@ -1,5 +1,6 @@
 //! Counts what the lists of calls were made of, so that a comparison fails where some kind of case never occurred.
 
+use crate::kinds;
 use crate::reference::{Answer, Call, OFFICE};
 
 /// The six calls, and the answers that docs/SPEC.md gives each: 0 and its refusals.
@@ -29,7 +30,12 @@ pub const EVERY_LENGTH: usize = 256;
 kinds! {
     NoCapacity, "opening at capacity 0";
     CapacityAbove, "opening at a capacity above 2,048";
-    EmptyBook, "a book without terms opened";
+    NoTerms, "book 00 opened";
+    NoBytes, "a book of no bytes opened";
+    NoBytesNoCapacity, "a book of no bytes refused with 4";
+    NoBytesInShortArea, "a book of no bytes refused with 7";
+    NoBytesWritten, "the book written of an area opened from no bytes";
+    NoBytesNotWritten, "the same refused with 13";
     LargeBook, "a book of 513 to 1,023 terms opened";
     FullBook, "a book of 1,024 terms opened";
     FullBookMostEntries, "a book of 1,024 terms at capacity 2,048";
@@ -159,14 +165,17 @@ impl Census {
         seen[number] += u64::from(damaged);
     }
 
-    pub fn opening(&mut self, capacity: u32, after: Sight, answer: &Answer) {
+    pub fn opening(&mut self, capacity: u32, book: &[u8], after: Sight, answer: &Answer) {
         self.note(Kind::NoCapacity, capacity == 0);
         self.note(Kind::CapacityAbove, capacity > OFFICE.capacity);
+        self.note(Kind::NoBytesNoCapacity, book.is_empty() && answer.refusal == 4);
+        self.note(Kind::NoBytesInShortArea, book.is_empty() && answer.refusal == 7);
         if answer.refusal != 0 {
             return;
         }
         self.capacities[capacity as usize - 1] += 1;
-        self.note(Kind::EmptyBook, after.terms == 0);
+        self.note(Kind::NoTerms, after.terms == 0 && !book.is_empty());
+        self.note(Kind::NoBytes, book.is_empty());
         self.note(Kind::LargeBook, (513..1024).contains(&after.terms));
         self.note(Kind::FullBook, after.terms == 1024);
         self.note(Kind::FullBookMostEntries, after.terms == 1024 && capacity == OFFICE.capacity);
@@ -259,9 +268,7 @@ impl Census {
             println!("{what}, by answer: {}", counts.join(", "));
         }
         println!("on damaged areas, by call: {:?} refused with 7, {:?} not", self.unsound, self.sound);
-        for (what, number) in KINDS.iter().zip(&self.kinds) {
-            println!("{what}: {number}");
-        }
+        kinds::print(KINDS, &self.kinds);
     }
 
     pub fn calls(&self) -> u64 {
@@ -289,6 +296,6 @@ impl Census {
 
     /// The kinds of cases that did not occur.
     pub fn missing(&self) -> Vec<&'static str> {
-        KINDS.iter().zip(&self.kinds).filter(|(_, &number)| number == 0).map(|(&what, _)| what).collect()
+        kinds::missing(KINDS, &self.kinds)
     }
 }

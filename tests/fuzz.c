@@ -281,13 +281,23 @@ static int equal(const struct kept *a, const struct kept *b)
     return a->length == b->length && same(a->bytes, b->bytes, a->length);
 }
 
-/* The refusal of a book; one that is accepted is copied as it is. */
+/* What is written for a book that opens: its bytes, but 00 where it has none. */
+static const struct kept *as_written(const struct kept *book)
+{
+    static const struct kept no_terms = {{0}, 1};
+    return book->length == 0 ? &no_terms : book;
+}
+
+/* The refusal of a book; one that is accepted is copied as it is written, and one of no bytes is accepted. */
 static uint32_t refusal_of(const struct kept *book)
 {
     struct bytes lent = lend_kept(stored_end, book), out = lend(out_end, MOST_OUT);
+    const struct kept *copied = as_written(book);
     uint32_t written, refusal = fit_copy_book(lent.start, lent.length, out.start, out.length, &written);
-    if (refusal == 0 && (written != book->length || !same(out.start, book->bytes, written)))
+    if (refusal == 0 && (written != copied->length || !same(out.start, copied->bytes, written)))
         fail("copied as another book", COPY, 0, MOST_OUT);
+    if (refusal != 0 && book->length == 0)
+        fail("a book of no bytes is refused", COPY, 0, MOST_OUT);
     return refusal;
 }
 
@@ -363,6 +373,7 @@ static uint32_t refusal_of_list(const struct kept *book, const struct kept *list
 static void store_all(uint32_t a, uint32_t b, const struct kept *book)
 {
     static struct kept stored, listed, again, listed_again, restored;
+    const struct kept *first = as_written(book);
     uint32_t expected = refusal_of(book), t;
     if (store(book, FIT_BOOK_BYTES, FIT_LIST_BYTES, &stored, &listed) != expected)
         fail("another refusal than the book's", STORE, a, b);
@@ -379,9 +390,9 @@ static void store_all(uint32_t a, uint32_t b, const struct kept *book)
     for (t = 1; t < taken.terms; t++)
         if (taken.symbol[t - 1] > taken.symbol[t] || (taken.symbol[t - 1] == taken.symbol[t] && taken.list[t - 1] > taken.list[t]))
             fail("stored in another order", STORE, a, b);
-    if (restore(&stored, &listed, book->length, &restored) != 0 || !equal(&restored, book))
+    if (restore(&stored, &listed, first->length, &restored) != 0 || !equal(&restored, first))
         fail("not restored", STORE, a, b);
-    if (restore(&stored, &listed, book->length - 1, &restored) != FIT_TOO_SHORT)
+    if (restore(&stored, &listed, first->length - 1, &restored) != FIT_TOO_SHORT)
         fail("restored in less", STORE, a, b);
 }
 
@@ -390,9 +401,10 @@ static void store_all(uint32_t a, uint32_t b, const struct kept *book)
 static void restore_all(uint32_t b, const struct kept *book, const struct kept *listed)
 {
     static struct kept restored, again, inverse;
+    const struct kept *first = as_written(book);
     uint32_t a = (uint32_t)listed->length, expected = refusal_of(book), t;
     if (expected == 0)
-        expected = refusal_of_list(book, listed);
+        expected = refusal_of_list(first, listed);
     if (restore(book, listed, FIT_BOOK_BYTES, &restored) != expected)
         fail("another refusal than the book's or the list's", RESTORE, a, b);
     if (restore(book, listed, b, &again) != (expected == 0 && b < restored.length ? (uint32_t)FIT_TOO_SHORT : expected))
@@ -406,7 +418,7 @@ static void restore_all(uint32_t b, const struct kept *book, const struct kept *
     inverse.length = 0;
     for (t = 0; t < taken.terms; t++)
         put_number(&inverse, taken.places[t]);
-    if (restore(&restored, &inverse, book->length, &again) != 0 || !equal(&again, book))
+    if (restore(&restored, &inverse, first->length, &again) != 0 || !equal(&again, first))
         fail("not restored by the inverse", RESTORE, a, b);
 }
 

@@ -55,6 +55,7 @@ const SAMPLES: &[(&str, u16, &[u8], &[Three])] = &[
     ("B4", 1024, BOOK_B, &[add(1, 1), REPORT]),
     ("B5", 1024, BOOK_B, &[bind(0, 1), bind(1, 0), REPORT]),
     ("Z1", 1024, &[0], &[REPORT, [5, 0, 255], [6, 0, 255]]),
+    ("no_bytes", 1024, &[], &[REPORT, add(0, 0), [5, 0, 255], [5, 0, 0], [6, 0, 0], [6, 0, 1], [6, 0, 255]]),
     ("refused_1", 1, &[0x01], &[[6, 0, 16]]),
     ("refused_2", 1, &[0x80, 0x00], &[[6, 0, 16]]),
     ("refused_3", 1, &[0x00, 0x05], &[[6, 0, 16]]),
@@ -68,6 +69,7 @@ const SAMPLES: &[(&str, u16, &[u8], &[Three])] = &[
     ("cut", 1024, BOOK_B, &[[8, 16, 0]]),
     ("stored", 1, RING, &[store(11, 4), store(12, 5), store(10, 4), store(11, 3)]),
     ("nothing_stored", 1, &[0], &[store(1, 0), store(0, 0)]),
+    ("no_bytes_stored", 1, &[], &[store(1, 0), store(0, 0), store(2, 1)]),
     ("stored_refused", 1, &[0x01, 0x01, 0x01, 0x00], &[store(16, 16)]),
 ];
 
@@ -160,7 +162,9 @@ fn main() {
     }
     let (book, lists) = RESTORED;
     write("restored", input(1, book, &lists.iter().flat_map(|list| restore(list, 7)).collect::<Vec<u8>>()));
-    write("nothing_restored", input(1, &[0], &[restore(&[], 1), restore(&[0], 1), restore(&[], 0)].concat()));
+    let nothing = [restore(&[], 1), restore(&[0], 1), restore(&[0x80], 1), restore(&[], 0)].concat();
+    write("nothing_restored", input(1, &[0], &nothing));
+    write("no_bytes_restored", input(1, &[], &nothing));
     write("grown", grown());
     let mut random = Random(RANDOM as u64);
     for i in 0..RANDOM {

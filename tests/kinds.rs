@@ -12,3 +12,15 @@ macro_rules! kinds {
         const KINDS: &[&str] = &[$($what),*];
     };
 }
+
+/// Prints how often each kind occurred.
+pub fn print(kinds: &[&str], counts: &[u64]) {
+    for (what, number) in kinds.iter().zip(counts) {
+        println!("{what}: {number}");
+    }
+}
+
+/// The kinds that did not occur.
+pub fn missing(kinds: &[&'static str], counts: &[u64]) -> Vec<&'static str> {
+    kinds.iter().zip(counts).filter(|(_, &number)| number == 0).map(|(&what, _)| what).collect()
+}

@@ -31,11 +31,11 @@ fn fits_earlier(rows: &[u32], first: u32, arity: u32) -> bool {
     rows.chunks_exact(TERM_ROW).all(|row| row[0] != first || row[1] == arity)
 }
 
-/// Decodes into rows. The rule that a symbol has one arity is tested by a table of symbols or by a look back.
+/// Decodes into rows; a book of no bytes has none. The rule that a symbol has one arity is tested by a table of symbols or by a look back.
 fn decode<const LOOK_BACK: bool>(bytes: &[u8], rows: &mut [u32; ROWS]) -> Result<usize, u32> {
     let mut at = 0;
     let mut arities = [0u8; 4096];
-    let count = number(bytes, &mut at)? as usize;
+    let count = if bytes.is_empty() { 0 } else { number(bytes, &mut at)? as usize };
     if count > 1024 {
         return Err(4);
     }
@@ -144,16 +144,17 @@ fn encode(rows: &[u32], out: &mut [u8]) -> (u32, u32) {
     (0, length as u32)
 }
 
-/// The refusal, or 0, and the number of bytes written.
-pub fn copy(book: &[u8], out: &mut [u8]) -> (u32, u32) {
+/// Copying, in the form of the second implementation's.
+pub fn copy_book(_: Limits, book: &[u8], out: &mut [u8]) -> Answer {
     let mut rows = [0; ROWS];
-    match decode::<false>(book, &mut rows) {
+    let (refusal, written) = match decode::<false>(book, &mut rows) {
         Ok(count) => encode(&rows[..TERM_ROW * count], out),
         Err(refusal) => (refusal, 0),
-    }
+    };
+    Answer::new(refusal, &[written])
 }
 
-/// Storing, in the form of the second implementation's.
+/// Storing, in that form.
 pub fn store_book(_: Limits, book: &[u8], out: &mut [u8], list: &mut [u8]) -> Answer {
     let (refusal, written, list_written) = archive::store(book, out, list);
     Answer::new(refusal, &[written, list_written])

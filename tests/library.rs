@@ -37,6 +37,12 @@ pub fn perform(_: Limits, call: Call, area: &mut [u8], out: &mut [u8]) -> Answer
     }
 }
 
+pub fn copy_book(_: Limits, book: &[u8], out: &mut [u8]) -> Answer {
+    let mut written = UNSET;
+    let refusal = fit::copy_book(book, out, &mut written);
+    Answer::new(refusal, &[written])
+}
+
 pub fn store_book(_: Limits, book: &[u8], out: &mut [u8], list: &mut [u8]) -> Answer {
     let (mut written, mut list_written) = (UNSET, UNSET);
     let refusal = fit::store_book(book, out, list, &mut written, &mut list_written);

@@ -20,8 +20,11 @@ pub fn random_terms(random: &mut Random) -> Vec<Term> {
     }
 }
 
-/// Damages a book, which is not empty: it is cut, or a byte is altered, put in or added.
+/// Damages a book: it is cut, or a byte is altered, put in or added; no bytes are left as they are.
 pub fn blemish(random: &mut Random, book: &mut Vec<u8>) {
+    if book.is_empty() {
+        return;
+    }
     let at = random.place(book.len());
     match random.below(5) {
         0 => book.truncate(at),
@@ -86,15 +89,17 @@ fn damage(random: &mut Random, numbers: &mut Vec<Vec<u8>>, count: u64) {
     let any = encode_list(&[random.below(count + 3) as u32]);
     let half = random.pick(&[&[0x80][..], &[0xFF, 0x80]]).to_vec();
     if numbers.is_empty() {
-        return numbers.push(any);
+        let bad = bad_number(random);
+        return numbers.push(random.pick(&[&any, &half, &bad]).clone());
     }
     let at = random.place(numbers.len());
-    match random.below(10) {
+    match random.below(11) {
         0..=1 => numbers[at] = bad_number(random),
         2..=3 => numbers[at] = encode_list(&[no_term(random, count)]),
         4..=6 => numbers[at] = numbers[random.place(numbers.len())].clone(),
         7 => numbers.push(random.pick(&[&any, &half]).clone()),
         8 => drop(numbers.remove(at)),
+        9 => numbers.clear(),
         _ => {
             numbers.pop();
             numbers.push(half);

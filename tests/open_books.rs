@@ -1,13 +1,57 @@
 //! Compares opening and copying a book, through the C interface, with the second implementation, on random books, valid and
-//! damaged. Every case is made from its own seed, which is printed where the two differ.
+//! damaged, some of no bytes; and tests on both that a book which breaks off after its first byte is refused with 1. Every case is made
+//! from its own seed, which is printed where the two differ. It fails where some kind of case never occurs.
 
+#[cfg_attr(stand_in, path = "stand_in.rs")]
 mod fit;
+#[macro_use]
+mod kinds;
+mod library;
 mod reference;
+mod samples;
 
-use reference::{first_seed, perform, times, Call, Random, Term, OFFICE};
+use reference::{bytes_of, copy_book, decode, encode, first_seed, perform, random_book, times, written_back, Answer, Call, Random, OFFICE};
+use samples::Tally;
 
 const CASES: u64 = 120_000;
 const SEED: u64 = 0x5EED_0000_0000_0000;
+/// Of one valid book in so many, if it has at most so many bytes, every front is tried.
+const FRONTS_EVERY: u64 = 8;
+const FRONTS_MOST: usize = 200;
+const FILLING: u8 = 0xEE;
+
+kinds! {
+    NoBytesOpened, "a book of no bytes opened";
+    NoBytesInShortArea, "a book of no bytes refused with 7";
+    NoBytesCopied, "a book of no bytes copied into an output of one byte";
+    NoBytesCopiedLonger, "a book of no bytes copied into a longer output";
+    NoBytesNoOutput, "a book of no bytes refused with 13";
+    BrokenOff, "a book that breaks off after its first byte, refused with 1";
+    Valid, "a valid book";
+    Fronts, "a valid book of which every front is tried";
+}
+
+/// How often each kind of case occurred.
+#[derive(Default)]
+struct Census([u64; KINDS.len()]);
+
+impl Census {
+    fn note(&mut self, kind: Kind, occurs: bool) {
+        self.0[kind as usize] += u64::from(occurs);
+    }
+
+    fn opening(&mut self, book: &[u8], answer: &Answer) {
+        self.note(Kind::NoBytesOpened, book.is_empty() && answer.refusal == 0);
+        self.note(Kind::NoBytesInShortArea, book.is_empty() && answer.refusal == 7);
+        self.note(Kind::BrokenOff, !book.is_empty() && answer.refusal == 1);
+    }
+
+    fn copying(&mut self, book: &[u8], length: usize, answer: &Answer) {
+        self.note(Kind::NoBytesCopied, book.is_empty() && answer.refusal == 0 && length == 1);
+        self.note(Kind::NoBytesCopiedLonger, book.is_empty() && answer.refusal == 0 && length > 1);
+        self.note(Kind::NoBytesNoOutput, book.is_empty() && answer.refusal == 13);
+    }
+}
 
 /// The bytes of a random book, and in three cases of four damaged: cut, a byte changed, or a byte added.
 fn random_bytes(random: &mut Random) -> Vec<u8> {
@@ -17,7 +61,8 @@ fn random_bytes(random: &mut Random) -> Vec<u8> {
         4 => 1025,
         _ => random.below(24),
     } as usize;
-    let mut bytes = reference::encode(&reference::random_book(random, count));
+    let terms = random_book(random, count);
+    let mut bytes = bytes_of(random, &terms);
     let at = random.below(bytes.len() as u64 + 1) as usize;
     match random.below(4) {
         0 => bytes.truncate(at),
@@ -50,7 +95,7 @@ fn random_capacity(random: &mut Random) -> u32 {
 }
 
 /// Opening agrees in the answer and in every byte of the area.
-fn open_agrees(random: &mut Random, book: &[u8]) -> bool {
+fn open_agrees(random: &mut Random, book: &[u8], census: &mut Census) -> bool {
     let capacity = random_capacity(random);
     let needed = OFFICE.area_length(capacity);
     let length = match random.below(16) {
@@ -65,62 +110,80 @@ fn open_agrees(random: &mut Random, book: &[u8]) -> bool {
     let same_length = fit::area_length(capacity) == needed;
     let expected = perform(OFFICE, Call::Open { capacity, book }, &mut theirs, &mut []);
     let same_answer = fit::open(capacity, book, &mut ours) == expected.refusal;
+    census.opening(book, &expected);
     same_length && same_answer && ours == theirs
 }
 
 /// Copying agrees in the answer, the count and every byte of the output.
-fn copy_agrees(random: &mut Random, book: &[u8]) -> bool {
-    let decoded = reference::decode(OFFICE, book);
+fn copy_agrees(random: &mut Random, book: &[u8], census: &mut Census) -> bool {
+    let needed = written_back(book).len();
     let length = match random.below(4) {
-        0 => random.below(book.len() as u64 + 1) as usize,
-        1 => book.len(),
-        _ => book.len() + random.below(20) as usize,
+        0 => random.place(needed + 1),
+        1 => needed,
+        _ => needed + random.place(20),
     };
     let filling = random.next() as u8;
     let mut ours = vec![filling; length];
-    let mut written = random.next() as u32;
-    let answer = fit::copy_book(book, &mut ours, &mut written);
     let mut theirs = vec![filling; length];
-    let (expected, count) = match decoded {
-        Err(refusal) => (refusal, 0),
-        Ok(terms) => write_back(&terms, book, &mut theirs),
-    };
-    answer == expected && written as usize == count && ours == theirs
+    let answer = library::copy_book(OFFICE, book, &mut ours);
+    let expected = copy_book(OFFICE, book, &mut theirs);
+    census.copying(book, length, &expected);
+    answer == expected && ours == theirs
 }
 
-fn write_back(terms: &[Term], book: &[u8], out: &mut [u8]) -> (u32, usize) {
-    let bytes = reference::encode(terms);
-    assert_eq!(bytes, book, "the second implementation itself does not write back what it read");
-    if out.len() < bytes.len() {
-        return (13, 0);
-    }
-    out[..bytes.len()].copy_from_slice(&bytes);
-    (0, bytes.len())
+/// A valid book cut anywhere after its first byte is refused with 1 by both, opened and copied, and area and output stay.
+fn fronts_are_refused(book: &[u8]) -> bool {
+    let (mut area, mut out) = (vec![FILLING; OFFICE.area_length(1)], [FILLING; FRONTS_MOST]);
+    let refused = Answer::new(1, &[]);
+    let are_refused = (1..book.len()).all(|length| {
+        let book = &book[..length];
+        let copied = [copy_book, library::copy_book].map(|copy| copy(OFFICE, book, &mut out));
+        let opened = [perform, library::perform].map(|perform| perform(OFFICE, Call::Open { capacity: 1, book }, &mut area, &mut []));
+        copied == [refused; 2] && opened == [refused; 2]
+    });
+    are_refused && area.iter().chain(&out).all(|&byte| byte == FILLING)
+}
+
+/// Whether opening agrees, whether copying does, and whether what breaks off is refused with 1.
+fn run_case(seed: u64, census: &mut Census) -> [bool; 3] {
+    let random = &mut Random(seed);
+    let book = random_bytes(random);
+    let agree = [open_agrees(random, &book, census), copy_agrees(random, &book, census)];
+    let Ok(terms) = decode(OFFICE, &book) else {
+        return [agree[0], agree[1], true];
+    };
+    assert_eq!(encode(&terms), written_back(&book), "the second implementation itself does not write back what it read");
+    let are_tried = book.len() <= FRONTS_MOST && random.below(FRONTS_EVERY) == 0;
+    census.note(Kind::Valid, true);
+    census.note(Kind::Fronts, are_tried && book.len() > 1);
+    [agree[0], agree[1], !are_tried || fronts_are_refused(&book)]
 }
 
 fn main() {
+    let mut tally = Tally::default();
+    samples::run_copies(OFFICE, copy_book, &mut tally);
+    samples::run_copies(OFFICE, library::copy_book, &mut tally);
     let (first, cases) = (first_seed(SEED), CASES * times());
-    let (mut accepted, mut opening, mut copying) = (0u64, 0u64, 0u64);
-    for case in 0..cases {
-        let seed = first + case;
-        let mut random = Random(seed);
-        let book = random_bytes(&mut random);
-        accepted += u64::from(reference::decode(OFFICE, &book).is_ok());
-        if !open_agrees(&mut random, &book) {
-            println!("opening differs: seed {seed:#x}, book {book:02x?}");
-            opening += 1;
+    let mut census = Census::default();
+    let mut failures = [0; 3];
+    for seed in first..first + cases {
+        let holds = run_case(seed, &mut census);
+        for (i, what) in ["opening differs", "copying differs", "a book that breaks off is not refused with 1"].iter().enumerate() {
+            if !holds[i] {
+                println!("{what}: seed {seed:#x}, book {:02x?}", random_bytes(&mut Random(seed)));
+                failures[i] += 1;
+            }
         }
-        if !copy_agrees(&mut random, &book) {
-            println!("copying differs: seed {seed:#x}, book {book:02x?}");
-            copying += 1;
-        }
-        if opening + copying > 20 {
+        if failures.iter().sum::<u64>() > 20 {
             break;
         }
     }
-    println!("{cases} random books from seed {first:#x}, {accepted} of them valid");
-    println!("opening: {opening} differ; copying: {copying} differ");
-    let failed = u32::from(opening > 0) + u32::from(copying > 0);
-    println!("{} passed, {failed} failed", 2 - failed);
-    std::process::exit(i32::from(failed > 0));
+    println!("{cases} random books from seed {first:#x}; opening, copying and fronts: {failures:?} differ");
+    kinds::print(KINDS, &census.0);
+    let missing = kinds::missing(KINDS, &census.0);
+    tally.test("opening agrees", failures[0] == 0);
+    tally.test("copying agrees", failures[1] == 0);
+    tally.test("a book that breaks off after its first byte is refused with 1", failures[2] == 0);
+    tally.test(&format!("every kind of case occurs, but: {missing:?}"), missing.is_empty());
+    tally.finish()
 }

@@ -1,6 +1,6 @@
 /* Runs the pieces of C that docs/C-API.md has, which tests/run puts into page.h: a number as bytes, compared with the page's own
-   examples and those at each length; the page's book in two files, which have the page's bytes, and back from them, and files that are
-   too long; and the first program, which prints its line. */
+   examples and those at each length; the page's book in two files, which have the page's bytes, and back from them, files that are too
+   long, and those of a refused book, which are empty; a book of no bytes in two files; and the first program, which prints its line. */
 #define main first_program
 #include "page.h"
 #undef main
@@ -36,7 +36,11 @@ static int kept_in_files(void)
     if (stored_file == NULL || list_file == NULL)
         return 0;
     if (store_in_files(book, sizeof book - 1, stored_file, list_file) != FIT_CUT || !has(stored_file, book, 0) || !has(list_file, book, 0)
-        || store_in_files(book, sizeof book, stored_file, list_file) != FIT_OK || !has(stored_file, as_stored, sizeof as_stored)
+        || restore_from_files(stored_file, list_file, out, &written) != FIT_CUT || written != 0)
+        return 0;
+    rewind(stored_file);
+    rewind(list_file);
+    if (store_in_files(book, sizeof book, stored_file, list_file) != FIT_OK || !has(stored_file, as_stored, sizeof as_stored)
         || !has(list_file, as_list, sizeof as_list))
         return 0;
     if (restore_from_files(stored_file, list_file, out, &written) != FIT_OK || written != sizeof book || memcmp(out, book, written) != 0)
@@ -54,6 +58,18 @@ static int kept_in_files(void)
     return restore_from_files(stored_file, list_file, out, &written) == FIT_LEFT_OVER && written == 0;
 }
 
+/* A book of no bytes is kept as the byte 00, beside a list of no bytes. */
+static int no_bytes_in_files(void)
+{
+    static const uint8_t byte = 0xEE, no_terms = 0;
+    static uint8_t out[FIT_BOOK_BYTES] = {0xEE};
+    uint32_t written;
+    FILE *stored_file = tmpfile(), *list_file = tmpfile();
+    return stored_file != NULL && list_file != NULL && store_in_files(&byte, 0, stored_file, list_file) == FIT_OK
+        && has(stored_file, &no_terms, 1) && has(list_file, &byte, 0)
+        && restore_from_files(stored_file, list_file, out, &written) == FIT_OK && written == 1 && out[0] == 0;
+}
+
 int main(void)
 {
     size_t i;
@@ -65,7 +81,7 @@ int main(void)
             return 1;
         }
     }
-    if (!kept_in_files()) {
+    if (!kept_in_files() || !no_bytes_in_files()) {
         printf("a book in two files differs\n");
         return 1;
     }

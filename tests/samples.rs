@@ -1,10 +1,10 @@
-//! The worked samples of docs/SPEC.md and the example of docs/LAYOUT.md, for any implementation of the six calls; those of storing and
-//! restoring, for any implementation of these.
+//! The worked samples of docs/SPEC.md and the example of docs/LAYOUT.md, for any implementation of the six calls; those of copying, storing
+//! and restoring, for any implementation of these.
 
 // Each program uses a part.
 #![allow(dead_code)]
 
-use crate::reference::{encode, Answer, Call, Limits, Perform, Restore, Store, Term};
+use crate::reference::{encode, written_back, Answer, Call, CopyBook, Limits, Perform, Restore, Store, Term};
 
 const BOOK_A: &[u8] = &[6, 0, 4, 0, 2, 1, 0, 2, 1, 1, 3, 2, 2, 0, 3, 2, 3, 1];
 const BOOK_B: &[u8] = &[5, 0, 0, 4, 0, 2, 1, 1, 2, 1, 2];
@@ -82,6 +82,7 @@ const SAMPLES: &[Sample] = &[
     Sample { name: "B4", book: BOOK_B, steps: &[add(1, 1, &[0])], report: &[1, 0, 1, 1, 1, 0], entries: &[(&[1, 1], 0)] },
     Sample { name: "B5", book: BOOK_B, steps: &[bind(0, 1, &[0, 0]), bind_refused(1, 0, 10)], report: &[0, 0], entries: &[] },
     Sample { name: "Z1", book: &[0], steps: &[], report: &[0, 0], entries: &[] },
+    Sample { name: "Z1 of no bytes", book: &[], steps: &[(Call::Add { l: 0, r: 0 }, 8, &[])], report: &[0, 0], entries: &[] },
     Sample {
         name: "a pair has an order",
         book: BOOK_B,
@@ -114,9 +115,9 @@ const REFUSED_BOOKS: &[(&[u8], u32)] = &[
     (&[0x81, 0x08], 4),
     (&[0x01, 0x01, 0x01, 0x00], 5),
     (&[0x02, 0x01, 0x00, 0x01, 0x01, 0x00], 6),
-    (&[], 1),
     (&[0x80], 1),
     (&[0x80, 0x80], 1),
+    (&[0x02, 0x00], 1),
     (&[0x80, 0x80, 0x00], 2),
     (&[0x80, 0x80, 0x80], 2),
     (&[0x80, 0x80, 0x80, 0x01], 2),
@@ -180,10 +181,19 @@ pub fn run(limits: Limits, perform: Perform, tally: &mut Tally) {
     for (book, capacity, steps) in REFUSED_CALLS {
         tally.test(&format!("book {book:?}: {steps:?}"), subject.refuses_call(book, *capacity, steps));
     }
+    for book in WHOLE_BOOKS {
+        tally.test(&format!("each front of book {book:02X?} is refused with 1"), fronts(book).all(|front| subject.refuses_book(front, 1)));
+    }
+    tally.test("no bytes open as book 00", subject.opened(&[], 1).is_some() && subject.opened(&[], 1) == subject.opened(&[0], 1));
     tally.test("opening: 4 before 7 before the book", subject.opens_in_order());
     tally.test("an area of length 0 is refused with 7", subject.refuses_short());
     tally.test("a line too many: 8 before 12 before 11", subject.refuses_line_too_many());
     tally.test("an output too short is refused with 13", subject.refuses_short_output());
+}
+
+/// What a book is when it breaks off after its first byte.
+fn fronts(book: &[u8]) -> impl Iterator<Item = &[u8]> {
+    (1..book.len()).map(|length| &book[..length])
 }
 
 struct Subject {
@@ -212,23 +222,9 @@ impl Subject {
             return false;
         };
         sample.steps.iter().all(|step| self.makes(&mut area, step))
-            && self.puts(&mut area, Call::Report, sample.report)
-            && self.puts(&mut area, Call::Write, sample.book)
+            && puts(sample.report, |out| (self.perform)(self.limits, Call::Report, &mut area, out))
+            && puts(written_back(sample.book), |out| (self.perform)(self.limits, Call::Write, &mut area, out))
             && self.has_entries(&mut area, sample.entries)
-    }
-
-    /// The call writes these bytes, into an output that is just long enough or longer, and is refused by a shorter one.
-    fn puts(&self, area: &mut [u8], call: Call, bytes: &[u8]) -> bool {
-        (0..bytes.len() + 3).all(|length| {
-            let mut out = vec![FILLING; length];
-            let answer = (self.perform)(self.limits, call, area, &mut out);
-            let mut expected = vec![FILLING; length];
-            if length < bytes.len() {
-                return answer == Answer::new(13, &[]) && out == expected;
-            }
-            expected[..bytes.len()].copy_from_slice(bytes);
-            answer == Answer::new(0, &[bytes.len() as u32]) && out == expected
-        })
     }
 
     fn has_entries(&self, area: &mut [u8], entries: &[(&[u32], u32)]) -> bool {
@@ -251,16 +247,18 @@ impl Subject {
     }
 
     fn opens_in_order(&self) -> bool {
-        let opening = |capacity, length| {
+        let opening = |book, capacity, length| {
             let mut area = vec![FILLING; length];
-            let answer = (self.perform)(self.limits, Call::Open { capacity, book: &[1] }, &mut area, &mut []);
+            let answer = (self.perform)(self.limits, Call::Open { capacity, book }, &mut area, &mut []);
             (answer.refusal, area.iter().all(|&byte| byte == FILLING))
         };
         let (least, most) = (self.limits.area_length(1), self.limits.area_length(self.limits.capacity));
-        opening(0, 0) == (4, true)
-            && opening(self.limits.capacity + 1, most + 100) == (4, true)
-            && opening(1, least - 1) == (7, true)
-            && opening(self.limits.capacity, most) == (1, true)
+        let before_book = |book| {
+            opening(book, 0, 0) == (4, true)
+                && opening(book, self.limits.capacity + 1, most + 100) == (4, true)
+                && opening(book, 1, least - 1) == (7, true)
+        };
+        before_book(&[]) && before_book(&[1]) && opening(&[1], self.limits.capacity, most) == (1, true)
     }
 
     fn refuses_short(&self) -> bool {
@@ -321,10 +319,15 @@ fn sorted(parts: &[&[(usize, u32)]]) -> Vec<(usize, u32)> {
 /// The book in which three terms change places in a ring, as it is and as it is stored, and its list.
 const RING: (&[u8], &[u8], &[u8]) = (&[4, 1, 0, 2, 1, 0, 0, 3, 2, 1, 2], &[4, 0, 1, 0, 2, 1, 1, 3, 2, 2, 0], &[2, 0, 1, 3]);
 const NO_TERMS: (&[u8], &[u8], &[u8]) = (&[0], &[0], &[]);
+const NO_BYTES: (&[u8], &[u8], &[u8]) = (&[], &[0], &[]);
+
+/// Books that are valid.
+const WHOLE_BOOKS: [&[u8]; 3] = [BOOK_A, BOOK_B, RING.0];
 
 /// A variable, symbol 0 and symbol 1 over it; lists that are refused with it where the output has 6 bytes, and with what.
 const LISTED: &[u8] = &[3, 0, 1, 0, 2, 1, 1];
 const REFUSED_LISTS: &[(&[u8], u32)] = &[
+    (&[], 1),
     (&[0x09, 0x09], 1),
     (&[0x09, 0x80, 0x00], 2),
     (&[0x09, 0x09, 0x09, 0x09], 3),
@@ -335,13 +338,28 @@ const REFUSED_LISTS: &[(&[u8], u32)] = &[
     (&[0x01, 0x00, 0x02], 13),
 ];
 
+/// The samples' books, and those that are refused, copied.
+pub fn run_copies(limits: Limits, copy: CopyBook, tally: &mut Tally) {
+    for book in WHOLE_BOOKS.into_iter().chain([NO_TERMS.0, NO_BYTES.0]) {
+        tally.test(&format!("book {book:02X?} is copied"), puts(written_back(book), |out| copy(limits, book, out)));
+    }
+    for (book, refusal) in REFUSED_BOOKS {
+        let refuses = [0, 20].into_iter().all(|length| {
+            let mut out = vec![FILLING; length];
+            copy(limits, book, &mut out) == Answer::new(*refusal, &[]) && out == vec![FILLING; length]
+        });
+        tally.test(&format!("book {book:02X?} is refused with {refusal} by copying"), refuses);
+    }
+}
+
 /// The samples of storing and restoring.
 pub fn run_archive(limits: Limits, store: Store, restore: Restore, tally: &mut Tally) {
     let subject = Archive { limits, store, restore };
-    for (what, sample) in [("the ring", RING), ("the book without terms", NO_TERMS)] {
+    for (what, sample) in [("the ring", RING), ("the book without terms", NO_TERMS), ("the book of no bytes", NO_BYTES)] {
         tally.test(&format!("{what} is stored"), subject.stores(sample));
-        tally.test(&format!("{what} is restored"), subject.restores(sample.1, sample.2, sample.0));
+        tally.test(&format!("{what} is restored"), subject.restores(sample.1, sample.2, written_back(sample.0)));
     }
+    tally.test("no bytes are restored as 00", subject.restores(&[], &[], &[0]));
     for (book, refusal) in REFUSED_BOOKS {
         tally.test(&format!("book {book:02X?} is refused with {refusal} in the archive"), subject.refuses_book(book, *refusal));
     }
@@ -349,7 +367,15 @@ pub fn run_archive(limits: Limits, store: Store, restore: Restore, tally: &mut T
         tally.test(&format!("list {list:02X?} is refused with {refusal}"), subject.refuses(LISTED, list, *refusal));
     }
     tally.test("a list that is no stored book's restores", subject.restores(LISTED, &[1, 0, 2], &[3, 1, 0, 0, 2, 1, 0]));
-    tally.test("a list of a byte with the book without terms is refused with 3", subject.refuses(&[0], &[0], 3));
+    for list in [&[0][..], &[0x80], &[0x80, 0]] {
+        let refuses = [&[][..], &[0]].iter().all(|book| subject.refuses(book, list, 3));
+        tally.test(&format!("list {list:02X?} with a book without terms is refused with 3"), refuses);
+    }
+    for book in WHOLE_BOOKS {
+        tally.test(&format!("a list of no bytes with book {book:02X?} is refused with 1"), subject.refuses(book, &[], 1));
+        let are_refused = fronts(book).all(|front| subject.refuses_book(front, 1));
+        tally.test(&format!("each front of book {book:02X?} is refused with 1 in the archive"), are_refused);
+    }
     tally.test("a stored book can be longer", subject.stores_longer());
 }
 
@@ -375,14 +401,7 @@ impl Archive {
 
     /// Book and list restore this book, where the output is long enough.
     fn restores(&self, book: &[u8], list: &[u8], restored: &[u8]) -> bool {
-        (0..restored.len() + 3).all(|length| {
-            let mut out = vec![FILLING; length];
-            let answer = (self.restore)(self.limits, book, list, &mut out);
-            if length < restored.len() {
-                return answer == Answer::new(13, &[]) && out == vec![FILLING; length];
-            }
-            answer == Answer::new(0, &[restored.len() as u32]) && begins(&out, restored)
-        })
+        puts(restored, |out| (self.restore)(self.limits, book, list, out))
     }
 
     /// Restoring into an output of 6 bytes is refused.
@@ -416,4 +435,16 @@ impl Archive {
 /// Whether an output begins with these bytes, and the others are as they were.
 fn begins(out: &[u8], bytes: &[u8]) -> bool {
     out.starts_with(bytes) && out[bytes.len()..].iter().all(|&byte| byte == FILLING)
+}
+
+/// Whether a call writes these bytes into an output that is just long enough or longer, and is refused by a shorter one.
+fn puts(bytes: &[u8], mut call: impl FnMut(&mut [u8]) -> Answer) -> bool {
+    (0..bytes.len() + 3).all(|length| {
+        let mut out = vec![FILLING; length];
+        let answer = call(&mut out);
+        if length < bytes.len() {
+            return answer == Answer::new(13, &[]) && out == vec![FILLING; length];
+        }
+        answer == Answer::new(0, &[bytes.len() as u32]) && begins(&out, bytes)
+    })
 }

@@ -2,8 +2,8 @@
 
 mod reference;
 
-use reference::{decode, encode, perform, restore_book, store_book, Answer, Call, OFFICE};
-use std::slice::{from_raw_parts, from_raw_parts_mut};
+use reference::{copy_book, perform, restore_book, store_book, Call, OFFICE};
+use std::slice::from_raw_parts_mut;
 
 /// Bytes that C lends.
 #[repr(C)]
@@ -12,15 +12,10 @@ pub struct Bytes {
     length: usize,
 }
 
-/// Reads a book and writes it back, with no area.
-fn copy(book: &[u8], out: &mut [u8]) -> Answer {
-    match decode(OFFICE, book).map(|terms| encode(&terms)) {
-        Err(refusal) => Answer::new(refusal, &[]),
-        Ok(bytes) if out.len() < bytes.len() => Answer::new(13, &[]),
-        Ok(bytes) => {
-            out[..bytes.len()].copy_from_slice(&bytes);
-            Answer::new(0, &[bytes.len() as u32])
-        }
+impl Bytes {
+    /// The bytes, for the call that they are lent for.
+    unsafe fn lent<'a>(self) -> &'a mut [u8] {
+        from_raw_parts_mut(self.start, self.length)
     }
 }
 
@@ -30,9 +25,7 @@ fn copy(book: &[u8], out: &mut [u8]) -> Answer {
 /// The bytes are lent for the call and do not overlap, and there are 14 numbers.
 #[no_mangle]
 pub unsafe extern "C" fn second(name: u32, a: u32, b: u32, book: Bytes, area: Bytes, out: Bytes, numbers: *mut u32) -> u32 {
-    let book = from_raw_parts(book.start, book.length);
-    let area = from_raw_parts_mut(area.start, area.length);
-    let out = from_raw_parts_mut(out.start, out.length);
+    let [book, area, out] = [book, area, out].map(|bytes| bytes.lent());
     let answer = match name {
         0 => perform(OFFICE, Call::Open { capacity: a, book }, area, out),
         1 => perform(OFFICE, Call::Add { l: a, r: b }, area, out),
@@ -40,7 +33,7 @@ pub unsafe extern "C" fn second(name: u32, a: u32, b: u32, book: Bytes, area: By
         3 => perform(OFFICE, Call::Entry { i: a }, area, out),
         4 => perform(OFFICE, Call::Report, area, out),
         5 => perform(OFFICE, Call::Write, area, out),
-        _ => copy(book, out),
+        _ => copy_book(OFFICE, book, out),
     };
     from_raw_parts_mut(numbers, answer.numbers.len()).copy_from_slice(&answer.numbers);
     answer.refusal
@@ -52,10 +45,7 @@ pub unsafe extern "C" fn second(name: u32, a: u32, b: u32, book: Bytes, area: By
 /// The bytes are lent for the call and do not overlap, and there are two numbers.
 #[no_mangle]
 pub unsafe extern "C" fn second_store(book: Bytes, out: Bytes, list: Bytes, numbers: *mut u32) -> u32 {
-    let book = from_raw_parts(book.start, book.length);
-    let out = from_raw_parts_mut(out.start, out.length);
-    let list = from_raw_parts_mut(list.start, list.length);
-    let answer = store_book(OFFICE, book, out, list);
+    let answer = store_book(OFFICE, book.lent(), out.lent(), list.lent());
     from_raw_parts_mut(numbers, 2).copy_from_slice(&answer.numbers[..2]);
     answer.refusal
 }
@@ -66,10 +56,7 @@ pub unsafe extern "C" fn second_store(book: Bytes, out: Bytes, list: Bytes, numb
 /// The bytes are lent for the call and do not overlap.
 #[no_mangle]
 pub unsafe extern "C" fn second_restore(book: Bytes, list: Bytes, out: Bytes, number: *mut u32) -> u32 {
-    let book = from_raw_parts(book.start, book.length);
-    let list = from_raw_parts(list.start, list.length);
-    let out = from_raw_parts_mut(out.start, out.length);
-    let answer = restore_book(OFFICE, book, list, out);
+    let answer = restore_book(OFFICE, book.lent(), list.lent(), out.lent());
     *number = answer.numbers[0];
     answer.refusal
 }

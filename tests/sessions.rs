@@ -6,7 +6,7 @@
 mod bases;
 mod reference;
 
-use reference::{encode, first_seed, push_number, random_book, session, times, Call, End, Part, Random, Session, Term, LONGEST};
+use reference::{bytes_of, encode, first_seed, push_number, random_book, session, times, Call, End, Part, Random, Session, Term, LONGEST};
 use std::collections::BTreeMap;
 use std::io::{Read, Write};
 use std::os::fd::OwnedFd;
@@ -112,7 +112,7 @@ fn small(random: &mut Random) -> Vec<u8> {
             push_step(&mut steps, Call::Report);
         }
     }
-    of(&encode(&terms), &steps)
+    of(&bytes_of(random, &terms), &steps)
 }
 
 /// Damage: bytes altered, put in, taken out, or the end cut off.
@@ -217,6 +217,8 @@ fn random_session(seed: u64) -> Vec<u8> {
 fn kinds() -> Vec<String> {
     let mut kinds: Vec<String> = [
         "no bytes",
+        "a book of no bytes and nothing more",
+        "a book of no bytes and steps",
         "65,536 bytes",
         "65,537 bytes",
         "more bytes",
@@ -260,12 +262,22 @@ impl Census {
     fn session(&mut self, input: &[u8], session: &Session) {
         match input.len() {
             0 => self.note("no bytes"),
+            1 if input[0] == 0 => self.note("a book of no bytes and nothing more"),
             LONGEST => self.note("65,536 bytes"),
             length if length == LONGEST + 1 => self.note("65,537 bytes"),
             length if length > LONGEST => self.note("more bytes"),
+            _ if input[0] == 0 && !session.steps.is_empty() => self.note("a book of no bytes and steps"),
             _ => {}
         }
-        match session.end {
+        self.end(&session.end);
+        if let Some((_, refusal)) = session.said.split_once(": refused with ") {
+            self.note(format!("said: refused with {}", &refusal[..1]));
+        }
+        self.steps(session);
+    }
+
+    fn end(&mut self, end: &End) {
+        match end {
             End::TooLong => {}
             End::Length(refusal) => self.note(format!("length refused with {refusal}")),
             End::LengthPastEnd => self.note("length past the end"),
@@ -277,9 +289,9 @@ impl Census {
             End::UnknownStep => self.note("unknown step"),
             End::Input => self.note("all steps taken"),
         }
-        if let Some((_, refusal)) = session.said.split_once(": refused with ") {
-            self.note(format!("said: refused with {}", &refusal[..1]));
-        }
+    }
+
+    fn steps(&mut self, session: &Session) {
         let turns = session.steps.chunks(2);
         if turns.len() > 3 && turns.clone().all(|turn| turn.len() == 2 && turn[0] != 3 && turn[1] == 3) {
             self.note("a report after every step");
@@ -334,6 +346,12 @@ fn worked() -> Vec<(Vec<u8>, &'static str, String)> {
     let said = End::said;
     vec![
         (vec![], "1\n", said(0, 1)),
+        (vec![0], "0\n", String::new()),
+        (vec![0, 3], "0\n0 0 0\n", String::new()),
+        (vec![0, 1, 0, 0], "0\n8\n", String::new()),
+        (vec![0, 9], "0\n8\n", said(1, 8)),
+        (vec![1], "1\n", said(0, 1)),
+        (vec![1, 0x80], "1\n", said(1, 1)),
         (vec![2, 0], "1\n", said(0, 1)),
         (vec![0x80, 0], "2\n", said(0, 2)),
         (vec![1, 0, 5], "0\n8\n", said(2, 8)),

@@ -75,8 +75,34 @@ pub fn area_length(capacity: u32) -> usize {
     OFFICE.area_length(capacity)
 }
 
+/// The book that a book is taken for: no bytes may be taken for a cut number, and a book that is cut after a byte for no bytes.
+fn taken(book: &[u8]) -> &[u8] {
+    match mistake() {
+        "empty-book-refused" if book.is_empty() => &[0x80],
+        "broken-book-taken" if book.len() == 1 && decode(OFFICE, book) == Err(1) => &[],
+        _ => book,
+    }
+}
+
+/// What is written for a book; for no bytes it may be none.
+fn back(book: &[u8], bytes: Vec<u8>) -> Vec<u8> {
+    if book.is_empty() && is("empty-book-written-as-no-bytes") {
+        return Vec::new();
+    }
+    bytes
+}
+
+/// Opening. No bytes may be accepted before capacity and area are tested.
 pub fn open(capacity: u32, book: &[u8], area: &mut [u8]) -> u32 {
-    call(Call::Open { capacity, book }, area, &mut []).refusal
+    match call(Call::Open { capacity, book: taken(book) }, area, &mut []).refusal {
+        4 | 7 if is("empty-book-before-area") && book.is_empty() => 0,
+        refusal => refusal,
+    }
+}
+
+pub fn copy_book(book: &[u8], out: &mut [u8], written: &mut u32) -> u32 {
+    let bytes = decode(OFFICE, taken(book)).map(|terms| back(book, encode(&terms)));
+    put_answer(bytes, out, ["just-enough-refused", "byte-behind"], written)
 }
 
 /// A line. It may take the entry of the pair in the other order, or not be walked.
@@ -207,6 +233,7 @@ fn stored(book: &[u8]) -> Result<(Vec<u8>, Vec<u8>), u32> {
 /// Storing. One output alone may be tested or, though refused, written, and the numbers answered may be the wrong ones.
 pub fn store_book(book: &[u8], out: &mut [u8], list: &mut [u8], written: &mut u32, list_written: &mut u32) -> u32 {
     let put = |(stored, mut numbers): (Vec<u8>, Vec<u8>)| {
+        let stored = back(book, stored);
         if is("one-output-tested") {
             numbers.truncate(list.len());
         }
@@ -223,7 +250,7 @@ pub fn store_book(book: &[u8], out: &mut [u8], list: &mut [u8], written: &mut u3
         }
         Err(13)
     };
-    match stored(book).and_then(put) {
+    match stored(taken(book)).and_then(put) {
         Ok((first, second)) => {
             (*written, *list_written) = if is("answers-in-exchange") { (second, first) } else { (first, second) };
             0
@@ -250,9 +277,11 @@ fn restored(book: &[u8], list: &[u8], room: usize) -> Result<Vec<u8>, u32> {
     let Ok((numbers, rest)) = decode_numbers(count, list) else {
         let numbers_before = (0..count).map_while(|k| decode_numbers(k, list).ok()).last();
         let early = is("8-as-read") && numbers_before.is_some_and(|(numbers, _)| names_nothing(&numbers));
-        return if early { Err(8) } else { right };
+        let taken = is("empty-list-taken") && list.is_empty();
+        return if early { Err(8) } else if taken { Ok(book.to_vec()) } else { right };
     };
     match (right, mistake()) {
+        (Err(3), "list-of-empty-book-untested") if book.is_empty() => Ok(vec![0]),
         (Err(3), "3-after-8") if names_nothing(&numbers) => Err(8),
         (Err(3), "3-untested") => restored_bytes(OFFICE, book, &list[..list.len() - rest.len()]),
         (Err(8), "14-before-8") if !are_distinct(&numbers) => Err(14),
@@ -272,17 +301,23 @@ fn restored(book: &[u8], list: &[u8], room: usize) -> Result<Vec<u8>, u32> {
 }
 
 pub fn restore_book(book: &[u8], list: &[u8], out: &mut [u8], written: &mut u32) -> u32 {
-    match restored(book, list, out.len()) {
-        Ok(bytes) if fits(&bytes, out, "just-enough-restored-refused") => {
-            put_bytes(&bytes, out, "byte-behind-restored");
+    let bytes = restored(taken(book), list, out.len()).map(|bytes| back(book, bytes));
+    put_answer(bytes, out, ["just-enough-restored-refused", "byte-behind-restored"], written)
+}
+
+/// Puts bytes where they are not refused and fit. The mistakes are those of `fits` and `put_bytes`; a refusal may leave the number.
+fn put_answer(bytes: Result<Vec<u8>, u32>, out: &mut [u8], [refused, behind]: [&str; 2], written: &mut u32) -> u32 {
+    match bytes {
+        Ok(bytes) if fits(&bytes, out, refused) => {
+            put_bytes(&bytes, out, behind);
             *written = bytes.len() as u32;
             0
         }
-        refused => {
+        refusal => {
             if !is("number-not-zeroed") {
                 *written = 0;
             }
-            refused.err().unwrap_or(13)
+            refusal.err().unwrap_or(13)
         }
     }
 }

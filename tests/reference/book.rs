@@ -62,8 +62,11 @@ pub fn decode(limits: Limits, bytes: &[u8]) -> Result<Vec<Term>, u32> {
     decode_parts(limits, bytes).map_err(|refused| refused.refusal)
 }
 
-/// The terms of a book, or what it is refused for.
+/// The terms of a book, or what it is refused for. A book of no bytes has no terms.
 pub fn decode_parts(limits: Limits, bytes: &[u8]) -> Result<Vec<Term>, Refused> {
+    if bytes.is_empty() {
+        return Ok(Vec::new());
+    }
     let refused = |part, left: usize| move |refusal| Refused { part, at: bytes.len() - left, refusal };
     let mut source = Source { rest: bytes };
     let count = number_of_terms(limits, &mut source).map_err(refused(Part::Count, bytes.len()))?;
@@ -110,6 +113,15 @@ pub fn push_number(out: &mut Vec<u8>, mut n: u32) {
         n >>= 7;
     }
     out.push(n as u8);
+}
+
+/// What is written back of a valid book: its bytes, and 00 for a book of no bytes.
+pub fn written_back(book: &[u8]) -> &[u8] {
+    if book.is_empty() {
+        &[0]
+    } else {
+        book
+    }
 }
 
 /// The bytes of a book.

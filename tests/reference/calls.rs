@@ -1,4 +1,4 @@
-//! The six calls on the bytes of an area and of an output.
+//! The six calls on the bytes of an area and of an output, and copying a book.
 
 use super::area::{fields, read, store, Limits, ENTRY_ROW};
 use super::book::{check, decode, encode};
@@ -41,6 +41,14 @@ impl Answer {
 
 /// An implementation: it makes a call on an area and an output.
 pub type Perform = fn(Limits, Call, &mut [u8], &mut [u8]) -> Answer;
+
+/// An implementation of copying: a book and an output.
+pub type CopyBook = fn(Limits, &[u8], &mut [u8]) -> Answer;
+
+/// Reads a book and writes it back, with no area.
+pub fn copy_book(limits: Limits, book: &[u8], out: &mut [u8]) -> Answer {
+    Answer::of(decode(limits, book).and_then(|terms| Ok(vec![give(&encode(&terms), out)?])))
+}
 
 /// Makes a call: its answer, and the area and the output as it leaves them.
 pub fn perform(limits: Limits, call: Call, area: &mut [u8], out: &mut [u8]) -> Answer {

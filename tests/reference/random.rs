@@ -1,6 +1,6 @@
 //! Repeatable random numbers, and random books.
 
-use super::book::Term;
+use super::book::{encode, Term};
 use std::collections::HashMap;
 
 /// A repeatable source of numbers (SplitMix64).
@@ -72,4 +72,12 @@ pub fn book_over(random: &mut Random, signature: &[(u32, u32)], count: usize) ->
         }
     }
     terms
+}
+
+/// The bytes of a book; of one without terms there are none in half of the cases.
+pub fn bytes_of(random: &mut Random, terms: &[Term]) -> Vec<u8> {
+    if terms.is_empty() && random.below(2) == 0 {
+        return Vec::new();
+    }
+    encode(terms)
 }

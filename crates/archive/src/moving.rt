@@ -86,8 +86,8 @@ fn move_term(rows: &[u32], from: usize, target: &[u32], moved: &mut [u32], i: us
     }
 }
 
-// Moves the book in the first `n` rows: its term i is the old term `source` i, and its arguments are their `target`. The bytes are those of
-// the whole book.
+// Moves the book in the first `n` rows to `moved`, all zero before: its term i is the term `source[i]` of the rows, with `target[a]` for each
+// argument a. The bytes are those of the whole book.
 pub fn move_terms(
     rows: &[u32],
     n: usize,

@@ -37,14 +37,20 @@ fn read_terms(bytes: &[u8], at: usize, count: u32, rows: &mut [u32]) -> Advance
     Advance::Next(next)
 }
 
-// Decodes a book into the rows of as many terms as the limit, which are all zero. After a refusal nothing is promised of the
-// rows.
+// Decodes a book into the rows of as many terms as the limit, which are all zero. No bytes are the book without terms. After a
+// refusal nothing is promised of the rows.
 pub fn decode(lim: layout::limits::Limits, bytes: &[u8], rows: &mut [u32]) -> Decoding
     requires { ⌜ Modest (limitsOf lim) × (now rows ≡ replicate (termWords * lim .terms) 0) ⌝ }
     ensures refusal { λ r. ⌜ r .refusal ≡ decodedRefusal (parseBook (limitsOf lim) (now (bytes .entry))) ⌝ }
     ensures terms { λ r. ⌜ r .terms ≡ length (decodedBook (parseBook (limitsOf lim) (now (bytes .entry)))) ⌝ }
     ensures rows { λ r. ⌜ (r .refusal ≡ 0 → now (rows .exit) ≡ bookRows (termWords * lim .terms) (decodedBook (parseBook (limitsOf lim) (now (bytes .entry))))) ⌝ }
 {
+    if bytes.len() == 0 {
+        return Decoding {
+            refusal: 0,
+            terms: 0,
+        };
+    }
     match crate::parse::read_below(bytes, 0, lim.terms as u32 + 1, 4) {
         Part::Refused(n) => Decoding {
             refusal: n,

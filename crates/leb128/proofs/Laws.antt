@@ -2,6 +2,7 @@
 use mathlib.Core.Path.{_≡_, refl, sym, ap, subst, _∙_}
 use mathlib.Core.List.{List, [], _∷_, _++_}
 use mathlib.Core.Bool.{Bool, true, false, _&&_}
+use mathlib.Core.Logic.{_⊎_, inl, inr}
 use Prim.Native.Nat.{ℕ, zero, suc, _+_, _*_, _-_, _/_, _%_, _^_, _≤_, _<_}
 use native.Mathlib.Nat.{pow-suc, div-lt-iff-lt-mul}
 use native.Mathlib.Omega.{arith}
@@ -9,7 +10,7 @@ use borrow.Author.Tests.{leb-true, lt-ltb, eqb-false}
 use lib.Dec.{T, ltb, leb, eqb, ltb→lt}
 use lib.ListN.{length, drop}
 use Rattle.leb128.specs.Number.{Read, number, cut, invalid, prepend, readGroups, atMost, read, write}
-use Rattle.leb128.specs.Laws.{areBytes, ReadsWhatIsWritten, OnlyTheShortest, WithinTheLimit, RestIsATail, WritesBytes}
+use Rattle.leb128.specs.Laws.{areBytes, ReadsWhatIsWritten, OnlyTheShortest, WithinTheLimit, RestIsATail, FrontsOfNumbers, WritesBytes}
 use Rattle.leb128.proofs.Groups.{by-test, write-last, write-more, read-last, read-more, prepend-more, within}
 
 -- ---- what a number that was read was before
@@ -159,6 +160,42 @@ tail-of (suc k) (x ∷ xs) n rest e =
 pub rest-is-a-tail : RestIsATail
 unfolding read
 rest-is-a-tail k limit bytes n rest e = tail-of k bytes n rest (under-limit n rest limit (readGroups k bytes) e .0)
+
+-- ---- a front of a number's bytes
+
+-- What a front reads as, where with the tail behind it it is the number n.
+abbrev Front : Read → List ℕ → ℕ → List ℕ → Type 0
+Front r tail n rest = ((left : List ℕ) × (rest ≡ left ++ tail) × (r ≡ number n left)) ⊎ (r ≡ cut)
+
+-- one byte more in front
+one-more-front : (low high n : ℕ) (tail rest : List ℕ) (r : Read) → (high ≡ 0 → ⊥) → n ≡ low + 128 * high → Front r tail high rest
+    → Front (prepend low r) tail n rest
+unfolding prepend
+one-more-front low high n tail rest r z p (inl (left, q, h)) = inl (left, q, rw (h, p) (prepend-more low high left z))
+one-more-front low high n tail rest r z p (inr h) = inr (rw h)
+
+-- up to a limit
+under-limit-front : (limit n : ℕ) (tail rest : List ℕ) (r : Read) → n ≤ limit → Front r tail n rest → Front (atMost limit r) tail n rest
+unfolding atMost
+under-limit-front limit n tail rest r l (inl (left, q, h)) = inl (left, q, rw h (within limit n left l))
+under-limit-front limit n tail rest r l (inr h) = inr (rw h)
+
+-- with no limit
+front-of : (k : ℕ) (front tail : List ℕ) (n : ℕ) (rest : List ℕ) → readGroups k (front ++ tail) ≡ number n rest
+    → Front (readGroups k front) tail n rest
+unfolding readGroups
+front-of zero front tail n rest e = invalid-is-none e
+front-of (suc k) [] tail n rest e = inr refl
+front-of (suc k) (x ∷ xs) tail n rest e =
+    by-front k x (xs ++ tail) n rest e (λ b p q. inl (xs, sym q, read-last k x xs b ∙ ap (λ (m : ℕ). number m xs) p))
+    (λ high b r z p. subst (λ (r : Read). Front r tail n rest) (sym (read-more k x xs b))
+    (one-more-front (x - 128) high n tail rest (readGroups k xs) z p (front-of k xs tail high rest r)))
+
+pub fronts-of-numbers : FrontsOfNumbers
+unfolding read
+fronts-of-numbers k limit front tail n rest e =
+    let u = under-limit n rest limit (readGroups k (front ++ tail)) e in
+    under-limit-front limit n tail rest (readGroups k front) (u .1) (front-of k front tail n rest (u .0))
 
 -- ---- what is written
 

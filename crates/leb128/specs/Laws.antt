@@ -3,10 +3,11 @@
 use mathlib.Core.Path.{_≡_}
 use mathlib.Core.List.{List, [], _∷_, _++_}
 use mathlib.Core.Bool.{Bool, true, _&&_}
+use mathlib.Core.Logic.{_⊎_}
 use Prim.Native.Nat.{ℕ, _-_, _^_, _≤_, _<_}
 use lib.Dec.{T, ltb}
 use lib.ListN.{length, drop}
-use Rattle.leb128.specs.Number.{number, read, write}
+use Rattle.leb128.specs.Number.{number, cut, read, write}
 
 -- every element is a byte
 unfoldable pub areBytes : List ℕ → Bool
@@ -31,6 +32,12 @@ WithinTheLimit = (k limit : ℕ) (bytes : List ℕ) (n : ℕ) (rest : List ℕ) 
 abbrev pub RestIsATail : Type 0
 RestIsATail = (k limit : ℕ) (bytes : List ℕ) (n : ℕ) (rest : List ℕ)
     → read k limit bytes ≡ number n rest → (length rest < length bytes) × (drop (length bytes - length rest) bytes ≡ rest)
+
+-- Where bytes read as a number, a front of them reads as this number too, with so much of the rest behind it as lies in that front, or ends
+-- too early.
+abbrev pub FrontsOfNumbers : Type 0
+FrontsOfNumbers = (k limit : ℕ) (front tail : List ℕ) (n : ℕ) (rest : List ℕ) → read k limit (front ++ tail) ≡ number n rest
+    → ((left : List ℕ) × (rest ≡ left ++ tail) × (read k limit front ≡ number n left)) ⊎ (read k limit front ≡ cut)
 
 -- A number's bytes are bytes, at least one and at most k.
 abbrev pub WritesBytes : Type 0

@@ -69,13 +69,23 @@ parseTerms (suc k) before bytes =
     andThen (parseNode before tag rest) (λ n rest′.
     parseTerms k (before ++ n ∷ []) rest′))
 
--- A whole book: the number of terms (4), the terms, and nothing after them (3).
-unfoldable pub parseBook : Limits → List ℕ → Parsed Book
-parseBook lim bytes =
+-- A book as it is written: the number of terms (4), the terms, and nothing after them (3).
+unfoldable pub parseWritten : Limits → List ℕ → Parsed Book
+parseWritten lim bytes =
     andThen (parseNumber bytes) (λ n rest.
     need (leb n (lim .maxTerms)) 4
     (andThen (parseTerms n [] rest) (λ b rest′.
     need (isEmpty rest′) 3 (parsed b []))))
+
+-- A book: no bytes are the book without terms (document 02, request 2).
+unfoldable pub parseBook : Limits → List ℕ → Parsed Book
+parseBook lim [] = parsed [] []
+parseBook lim (x ∷ xs) = parseWritten lim (x ∷ xs)
+
+-- What is written for the book of these bytes, where they open: these bytes, and 00 where there are none.
+unfoldable pub asWritten : List ℕ → List ℕ
+asWritten [] = 0 ∷ []
+asWritten (x ∷ xs) = x ∷ xs
 
 unfoldable pub nodeNumbers : Node → List ℕ
 nodeNumbers var = 0 ∷ []

@@ -11,7 +11,7 @@ use Rattle.leb128.specs.Laws.{areBytes}
 use Rattle.model.specs.Limits.{Limits}
 use Rattle.model.specs.Term.{var, Book}
 use Rattle.model.specs.Report.{numberBytes}
-use Rattle.model.specs.BookBytes.{parsed, parseBook, bookBytes}
+use Rattle.model.specs.BookBytes.{parsed, parseBook, asWritten, bookBytes}
 use Rattle.model.specs.Call.{Outcome, emit}
 use Rattle.model.specs.Archive.{isVariable, variablesFirst, newNumber, renumbered, storedBook, parseList, Stored, callStore, callRestore}
 use Rattle.theory.specs.Numbering.{Distinct}
@@ -66,11 +66,12 @@ StoresAsAsked = (lim : Limits) (book out list : List ℕ) → callStore lim book
     → Stores lim book (callStore lim book out list)
 
 -- Book and list, as they were written, restore the first book's bytes, for every book that storing accepts (`stored-and-back` of
--- Lengths.antt: every book that opens, in outputs that are long enough), and into every output: 13 where they do not fit.
+-- Lengths.antt: every book that opens, in outputs that are long enough), and into every output: 13 where they do not fit. For no bytes they
+-- restore 00 (`asWritten`).
 abbrev pub StoredRestores : Type 0
 StoredRestores = (lim : Limits) (book out list : List ℕ) → T (areBytes book) → let o = callStore lim book out list in
     o .refusal ≡ 0 → (m n : ℕ) → o .numbers ≡ m ∷ n ∷ []
-    → (back : List ℕ) → callRestore lim (take m (o .output)) (take n (o .list)) back ≡ emit book [] back
+    → (back : List ℕ) → callRestore lim (take m (o .output)) (take n (o .list)) back ≡ emit (asWritten book) [] back
 
 -- Bytes are taken as a list of n terms exactly where they are the numbers of a list that names every term once.
 pub record ReadsLists : Type 0 where
@@ -78,14 +79,14 @@ pub record ReadsLists : Type 0 where
   pub only-these : (n : ℕ) (bytes list rest : List ℕ) → parseList n bytes ≡ parsed list rest
       → EachOnce n list × (rest ≡ []) × (T (areBytes bytes) → bytes ≡ numberBytes list)
 
--- The outcome of an accepted restoring: the bytes opened as the book `new`, the others are a list that names each of its terms once, and
+-- The outcome of an accepted restoring: the bytes opened as the book `new`, the other bytes are those of a list that names each of its terms once, and
 -- the output has the bytes of a book that opens, of which `new` is the renumbering by that list.
-pub record RestoredFrom (lim : Limits) (book bytes : List ℕ) (o : Outcome) : Type 0 where
+pub record RestoredFrom (lim : Limits) (book listBytes : List ℕ) (o : Outcome) : Type 0 where
   pub new : Book
   pub list : List ℕ
   pub old : Book
   pub opens : parseBook lim book ≡ parsed new []
-  pub listed : bytes ≡ numberBytes list
+  pub listed : listBytes ≡ numberBytes list
   pub each-once : EachOnce (length new) list
   pub renumbers : Renumbers list old new
   pub restored-opens : OpensAs lim old
@@ -93,8 +94,8 @@ pub record RestoredFrom (lim : Limits) (book bytes : List ℕ) (o : Outcome) : T
   pub written : take (length (bookBytes old)) (o .output) ≡ bookBytes old
 
 abbrev pub RestoresAsAsked : Type 0
-RestoresAsAsked = (lim : Limits) (book bytes out : List ℕ) → T (areBytes bytes) → callRestore lim book bytes out .refusal ≡ 0
-    → RestoredFrom lim book bytes (callRestore lim book bytes out)
+RestoresAsAsked = (lim : Limits) (book listBytes out : List ℕ) → T (areBytes listBytes) → callRestore lim book listBytes out .refusal ≡ 0
+    → RestoredFrom lim book listBytes (callRestore lim book listBytes out)
 
 -- Restoring from the book `new`, which opens from some bytes, and a list that names every term once: it works where a book opens of
 -- which `new` is the renumbering, that book's bytes are written (13 where they do not fit), and otherwise it is refused by 5.

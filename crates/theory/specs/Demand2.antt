@@ -8,7 +8,7 @@ use Rattle.leb128.specs.Laws.{areBytes}
 use Rattle.model.specs.Limits.{Limits}
 use Rattle.model.specs.Term.{Book, Tree, val}
 use Rattle.model.specs.Pattern.{Pattern, fill, refine, entryReading, leftValue, rightValue, lineReadings}
-use Rattle.model.specs.BookBytes.{parsed, parseBook}
+use Rattle.model.specs.BookBytes.{parsed, parseBook, asWritten}
 use Rattle.model.specs.Area.{sound, stateOf}
 use Rattle.model.specs.Call.{callOpen, callWrite, callCopy, emit}
 use Rattle.theory.specs.Modest.{Modest}
@@ -40,17 +40,18 @@ LinesReadBack = (lim : Limits) → Modest lim → (capacity : ℕ) (book area : 
     (map (fill (leftValue s)) (lineReadings s) ≡ map (λ (q : Request). val (s .book) (s .bound) (leftTerm q)) lines)
     × (map (fill (rightValue s)) (lineReadings s) ≡ map (λ (q : Request). val (s .book) (s .bound) (rightTerm q)) lines)
 
--- A book whose bytes open, written back at any time, has those bytes.
+-- A book whose bytes open, written back at any time, has those bytes; no bytes are written back as 00 (`asWritten`; EmptyBook.antt says that this
+-- is the one book whose bytes differ).
 abbrev pub WrittenBack : Type 0
 WrittenBack = (lim : Limits) → Modest lim → (capacity : ℕ) (book area : List ℕ) → T (areBytes book)
     → callOpen lim capacity book area .refusal ≡ 0 → (calls : List Request) (out : List ℕ)
     → let after = run lim (callOpen lim capacity book area .area) calls in
-    callWrite lim after out ≡ emit book after out
+    callWrite lim after out ≡ emit (asWritten book) after out
 
--- Bytes that parse, read and written back with no area, are those bytes, in any output that holds them.
+-- The same of bytes that parse, read and written back with no area, into every output: 13 where it is too short.
 abbrev pub CopiedBack : Type 0
 CopiedBack = (lim : Limits) (book : List ℕ) → T (areBytes book) → (b : Book) (rest : List ℕ) → parseBook lim book ≡ parsed b rest
-    → (out : List ℕ) → callCopy lim book out ≡ emit book [] out
+    → (out : List ℕ) → callCopy lim book out ≡ emit (asWritten book) [] out
 
 pub record Demand2 : Type 0 where
   pub rebuilds : Rebuilds

@@ -10,7 +10,7 @@ use Rattle.model.specs.Limits.{Limits, office, maxArity, sessionCapacity}
 use Rattle.model.specs.Term.{Book}
 use Rattle.model.specs.Step.{State}
 use Rattle.model.specs.Report.{numberBytes, reportBytes}
-use Rattle.model.specs.BookBytes.{parsed, parseBook, bookBytes}
+use Rattle.model.specs.BookBytes.{parsed, parseBook, asWritten, bookBytes}
 use Rattle.model.specs.Area.{soundState, sound, stateOf}
 use Rattle.model.specs.Call.{emit, callReport, callWrite, callCopy}
 use Rattle.model.specs.Archive.{variablesFirst, storedBook, parseRestored, callStore, callRestore}
@@ -83,8 +83,9 @@ pub record Lengths : Type 0 where
   pub room-to-store : (bytes out list : List ℕ) (b : Book) (rest : List ℕ) → parseBook office bytes ≡ parsed b rest
       → longestBook ≤ length out → longestList ≤ length list → callStore office bytes out list .refusal ≡ 0
   pub room-to-restore : (bytes list out : List ℕ) → longestBook ≤ length out → callRestore office bytes list out .refusal ≡ 13 → ⊥
-  -- so every book that opens is stored, and restored from what was written
+  -- so every book that opens is stored, and restored from what was written (13 where `back` is too short; 00 for no bytes)
   pub stored-and-back : (book out list back : List ℕ) (b : Book) (rest : List ℕ) → T (areBytes book) → parseBook office book ≡ parsed b rest
       → longestBook ≤ length out → longestList ≤ length list → let o = callStore office book out list in
       (o .refusal ≡ 0)
-      × ((m n : ℕ) → o .numbers ≡ m ∷ n ∷ [] → callRestore office (take m (o .output)) (take n (o .list)) back ≡ emit book [] back)
+      × ((m : ℕ) × (n : ℕ) × (o .numbers ≡ m ∷ n ∷ [])
+      × (callRestore office (take m (o .output)) (take n (o .list)) back ≡ emit (asWritten book) [] back))

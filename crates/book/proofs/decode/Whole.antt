@@ -1,5 +1,5 @@
 -- A whole book: the outcomes of decoding it, and what its decoder answers. Assumes nothing.
-use mathlib.Core.Path.{_≡_, sym, ap, subst, _∙_}
+use mathlib.Core.Path.{_≡_, refl, sym, ap, subst, _∙_}
 use mathlib.Core.List.{List, []}
 use mathlib.Core.Bool.{true, false}
 use Prim.Native.Nat.{ℕ, _+_, _-_, _<_, _≤_}
@@ -11,7 +11,8 @@ use lib.Seq.{drop-cons}
 use Rattle.model.specs.Limits.{Limits}
 use Rattle.model.specs.Lists.{isEmpty}
 use Rattle.model.specs.Term.{Book}
-use Rattle.model.specs.BookBytes.{parsed, unparsed, andThen, need, parseTerms, parseBook}
+use Rattle.model.specs.BookBytes.{parsed, unparsed, andThen, need, parseTerms, parseWritten, parseBook}
+use Rattle.theory.proofs.Book.Written.{none-written, some-written}
 use Rattle.theory.proofs.Book.Opening.{book-positive}
 use Rattle.book.specs.declared.parse.Advance.{Advance}
 use Rattle.book.specs.declared.parse.Advance.the-variants.{Next, Refused}
@@ -20,6 +21,7 @@ use Rattle.book.specs.unread.Unread.{orLeft, unreadTerms, numberOfTerms,
 use Rattle.book.specs.parse.Below.{parseBelow}
 use Rattle.book.specs.parse.Parts.{AdvanceOf, BookIn}
 use Rattle.book.proofs.decode.Parsing.{then-same, up-to-then}
+use Rattle.book.proofs.decode.TermRows.{rows-none}
 
 -- ---- the outcomes
 
@@ -32,12 +34,12 @@ pub left-some : (bytes : List ℕ) (end : ℕ) → end < length bytes → isEmpt
 unfolding isEmpty
 left-some bytes end h = rw (drop-cons bytes end 0 h)
 
-module _ (lim : Limits) (bytes : List ℕ) where
+module _ (lim : Limits) (bytes : List ℕ) (some : 0 < length bytes) where
   -- the count, the terms, and what is left
   pub book-parts : parseBook lim bytes ≡ andThen (parseBelow (lim .maxTerms + 1) 4 bytes) (λ n rest.
       andThen (parseTerms n [] rest) (λ b rest′. need (isEmpty rest′) 3 (parsed b [])))
-  unfolding parseBook
-  book-parts = rw add-one (up-to-then (lim .maxTerms) 4 bytes _)
+  unfolding parseWritten
+  book-parts = some-written lim bytes some ∙ rw add-one (up-to-then (lim .maxTerms) 4 bytes _)
 
   count-refused : (k : ℕ) → parseBelow (lim .maxTerms + 1) 4 bytes ≡ unparsed k → parseBook lim bytes ≡ unparsed k
   unfolding andThen
@@ -105,24 +107,28 @@ module _ (lim : Limits) (bytes : List ℕ) (size : ℕ) (rows : List ℕ) where
   unfolding decodedRefusal decodedBook
   book-answer n b e h = (rw e, (rw e (sym (h .as-many)), λ z. rw e (h .written)))
 
-  -- refused at the count, at a term, and at what is left; and a whole book
-  pub refused-count : (k : ℕ) → parseBelow (lim .maxTerms + 1) 4 bytes ≡ unparsed k → Decoded k 0
-  refused-count k e = refused-answer k (count-refused lim bytes k e)
+  -- no bytes
+  pub no-bytes : length bytes ≡ 0 → rows ≡ replicate size 0 → Decoded 0 0
+  no-bytes none zeros = book-answer 0 [] (none-written lim bytes none) (record { as-many = refl; written = zeros ∙ rows-none size })
 
-  module _ (n next : ℕ) (e : parseBelow (lim .maxTerms + 1) 4 bytes ≡ parsed n (drop next bytes)) {words : ℕ} (long : words ≡ size) where
+  -- refused at the count, at a term, and at what is left; and a whole book
+  pub refused-count : 0 < length bytes → (k : ℕ) → parseBelow (lim .maxTerms + 1) 4 bytes ≡ unparsed k → Decoded k 0
+  refused-count some k e = refused-answer k (count-refused lim bytes some k e)
+
+  module _ (some : 0 < length bytes) (n next : ℕ) (e : parseBelow (lim .maxTerms + 1) 4 bytes ≡ parsed n (drop next bytes)) {words : ℕ} (long : words ≡ size) where
     -- what the reader of terms promises
     abbrev Answered : Advance → Type 0
     Answered = AdvanceOf bytes (parseTerms n [] (drop next bytes)) (BookIn n words rows)
 
     pub refused-terms : (a : Advance) (k : ℕ) → Answered a → a ≡ Refused k → Decoded k 0
-    refused-terms a k s q = refused-answer k (terms-refused lim bytes n (drop next bytes) e k (subst Answered q s))
+    refused-terms a k s q = refused-answer k (terms-refused lim bytes some n (drop next bytes) e k (subst Answered q s))
 
     pub refused-end : (a : Advance) (end : ℕ) → Answered a → a ≡ Next end → end < length bytes → Decoded 3 0
     refused-end a end s q l =
         let d : Answered (Next end) = subst Answered q s in
-        refused-answer 3 (end-refused lim bytes n (drop next bytes) e (d .0) end (d .1) l)
+        refused-answer 3 (end-refused lim bytes some n (drop next bytes) e (d .0) end (d .1) l)
 
     pub whole-book : (a : Advance) (end : ℕ) → Answered a → a ≡ Next end → length bytes ≤ end → Decoded 0 n
     whole-book a end s q l =
         let d : Answered (Next end) = subst Answered q s in
-        book-answer n (d .0) (book-whole lim bytes n (drop next bytes) e (d .0) end (d .1) l) (subst (λ k. BookIn n k rows (d .0)) long (d .3))
+        book-answer n (d .0) (book-whole lim bytes some n (drop next bytes) e (d .0) end (d .1) l) (subst (λ k. BookIn n k rows (d .0)) long (d .3))

@@ -7,12 +7,12 @@ use native.Mathlib.Nat.{sub-zero}
 use native.Mathlib.Omega.{arith}
 use lib.ListN.{length, drop, length-append, length-drop}
 use lib.Dec.{ltb, leb}
-use Rattle.leb128.specs.Number.{maxGroups, maxNumber, Read, number, cut, invalid, read}
+use Rattle.leb128.specs.Number.{maxGroups, maxNumber, Read, number, cut, invalid, readGroups, atMost, read}
 use Rattle.leb128.specs.Answer.{placed, readAt}
 use Rattle.model.specs.Limits.{Limits, maxArity, maxSymbol}
 use Rattle.model.specs.Lists.{all, isEmpty}
 use Rattle.model.specs.Term.{Node, Book}
-use Rattle.model.specs.BookBytes.{Parsed, parsed, unparsed, andThen, need, parseNumber, arityFits, parseArguments, parseApp, parseNode, parseTerms, parseBook}
+use Rattle.model.specs.BookBytes.{Parsed, parsed, unparsed, andThen, need, fromRead, parseNumber, arityFits, parseArguments, parseApp, parseNode, parseTerms, parseBook}
 use Rattle.theory.proofs.Book.Gives.{Gives, need-gives, andThen-gives}
 use Rattle.book.specs.parse.Below.{parseBelow}
 use Rattle.book.specs.unread.Unread.{orLeft, unreadTerms, numberOfTerms, unreadBook, readTo, UnreadIsLeft, AcceptedIsRead}
@@ -111,9 +111,13 @@ terms-passed (suc k) before bytes b rest e =
 
 -- and behind a whole book nothing
 nothing-left : (lim : Limits) (bytes : List ℕ) (b : Book) (rest : List ℕ) → parseBook lim bytes ≡ parsed b rest → unreadBook lim bytes ≡ []
-unfolding andThen need isEmpty orLeft
-nothing-left lim bytes b rest e = book-unread lim bytes ∙ go (parseBelow _ 4 bytes) (sym (book-parts lim bytes) ∙ e)
+unfolding andThen need isEmpty unreadBook orLeft parseNumber fromRead read readGroups atMost
+nothing-left lim [] b rest e = refl
+nothing-left lim (x ∷ xs) b rest e = book-unread lim bytes ∙ go (parseBelow _ 4 bytes) (sym (book-parts lim bytes (omega arith)) ∙ e)
   where
+    bytes : List ℕ
+    bytes = x ∷ xs
+
     empty : (c : Book) (end : List ℕ) → need (isEmpty end) 3 (parsed c []) ≡ parsed b rest → end ≡ []
     empty c [] h = refl
     empty c (x ∷ xs) h = absurd (not-parsed h)
@@ -208,13 +212,18 @@ module _ (lim : Limits) (bytes : List ℕ) where
           let left = unread-terms n rest q in
           term-refused n rest (s .book) q (omega (arith, many, s .fewer)) (rw (many, ← left) (s .reads)) (rw (← left) (s .refuses))
 
-    in-book : (p : Parsed ℕ) → numberOfTerms lim bytes ≡ p
+    in-book : 0 < length bytes → (p : Parsed ℕ) → numberOfTerms lim bytes ≡ p
         → andThen p (λ n rest. andThen (parseTerms n [] rest) (λ b end. need (isEmpty end) 3 (parsed b []))) ≡ unparsed k → RefusedAt lim bytes k
     unfolding andThen
-    in-book (parsed n rest) q h = in-terms n rest q (parseTerms n [] rest) refl h
-    in-book (unparsed j) q h =
+    in-book some (parsed n rest) q h = in-terms n rest q (parseTerms n [] rest) refl h
+    in-book some (unparsed j) q h =
         let e : numberOfTerms lim bytes ≡ unparsed k = q ∙ ap unparsed (same-refusal h) in
-        number-refused e (sym (read-none lim bytes k (sym (count-below lim bytes) ∙ e)))
+        number-refused some e (sym (read-none lim bytes k (sym (count-below lim bytes) ∙ e)))
 
 pub refused-there : RefusedThere
-refused-there lim bytes k e = in-book lim bytes k (numberOfTerms lim bytes) refl (rw (count-below lim bytes) (sym (book-parts lim bytes) ∙ e))
+unfolding parseBook
+refused-there lim [] k e = absurd (not-parsed (sym e))
+refused-there lim (x ∷ xs) k e =
+    let bytes : List ℕ = x ∷ xs in
+    let some : 0 < length bytes = omega arith in
+    in-book lim bytes k some (numberOfTerms lim bytes) refl (rw (count-below lim bytes) (sym (book-parts lim bytes some) ∙ e))

@@ -28,7 +28,8 @@ unreadTerms (suc k) before bytes =
 abbrev pub numberOfTerms : Limits → List ℕ → Parsed ℕ
 numberOfTerms lim bytes = andThen (parseNumber bytes) (λ n rest. need (leb n (lim .maxTerms)) 4 (parsed n rest))
 
--- The bytes that are not read of a whole book: all where the number of terms is refused.
+-- The bytes that are not read of a whole book: all where the number of terms is refused. (No bytes, which open without
+-- such a number, have none unread.)
 unfoldable pub unreadBook : Limits → List ℕ → List ℕ
 unreadBook lim bytes = orLeft (numberOfTerms lim bytes) bytes (λ n rest. unreadTerms n [] rest)
 
@@ -46,7 +47,7 @@ AcceptedIsRead = (lim : Limits) (bytes : List ℕ) (b : Book) (rest : List ℕ) 
 -- And the part at that position is the one that is refused, with k: the number of terms, at the front; a term, behind those before it;
 -- or what is left behind the last term.
 pub data RefusedAt (lim : Limits) (bytes : List ℕ) (k : ℕ) : Type 0 where
-  number-refused : numberOfTerms lim bytes ≡ unparsed k → readTo lim bytes ≡ 0 → RefusedAt lim bytes k
+  number-refused : 0 < length bytes → numberOfTerms lim bytes ≡ unparsed k → readTo lim bytes ≡ 0 → RefusedAt lim bytes k
   term-refused : (n : ℕ) (rest : List ℕ) (before : Book) → numberOfTerms lim bytes ≡ parsed n rest → length before < n
       → parseTerms (length before) [] rest ≡ parsed before (drop (readTo lim bytes) bytes)
       → andThen (parseNumber (drop (readTo lim bytes) bytes)) (parseNode before) ≡ unparsed k → RefusedAt lim bytes k
@@ -56,7 +57,7 @@ pub data RefusedAt (lim : Limits) (bytes : List ℕ) (k : ℕ) : Type 0 where
 abbrev pub RefusedThere : Type 0
 RefusedThere = (lim : Limits) (bytes : List ℕ) (k : ℕ) → parseBook lim bytes ≡ unparsed k → RefusedAt lim bytes k
 
--- SAMPLES. How far document 01's examples of refusals 1 to 6 are read, and the book of one variable, which is accepted.
-pub read-to-samples : map (readTo office) (badBooks ++ (1 ∷ 0 ∷ []) ∷ []) ≡ 1 ∷ 0 ∷ 1 ∷ 0 ∷ 1 ∷ 3 ∷ 2 ∷ []
+-- SAMPLES. How far document 01's examples of refusals 1 to 6 are read, and the books of one variable and of no bytes, which are accepted.
+pub read-to-samples : map (readTo office) (badBooks ++ (1 ∷ 0 ∷ []) ∷ [] ∷ []) ≡ 1 ∷ 0 ∷ 1 ∷ 0 ∷ 1 ∷ 3 ∷ 2 ∷ 0 ∷ []
 unfolding computation readTo unreadBook unreadTerms orLeft
 read-to-samples = refl

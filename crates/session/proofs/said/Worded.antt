@@ -88,7 +88,7 @@ node-known before (suc s) bytes =
     (then-known (parseArguments (length before) c rest) _ (arguments-known (length before) c rest) λ args rest′. tt)))
 
 refused-known : (lim : Limits) (bytes : List ℕ) (k : ℕ) → RefusedAt lim bytes k → (1 ≤ k) × (k ≤ 6)
-refused-known lim bytes k (number-refused e _) =
+refused-known lim bytes k (number-refused _ e _) =
     known-at (numberOfTerms lim bytes)
     (then-known (parseNumber bytes) _ (number-known bytes) λ n rest.
     need-known (leb n (lim .maxTerms)) 4 (parsed n rest) (omega arith, omega arith) tt) e

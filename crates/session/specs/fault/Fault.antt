@@ -29,11 +29,11 @@ unfoldable pub openingFault : List ℕ → ℕ
 openingFault input = cond (leb (length input) maxSession) (bookFault input (readAt maxGroups maxNumber input 0)) maxSession
 
 -- In order: a length that is cut, one past the end, one not in shortest form; a term, bytes after the last term, the number of terms; and
--- an opening that is accepted.
+-- two openings that are accepted, the second of a book of length 0.
 pub fault-samples :
     map openingFault
-    ([] ∷ (5 ∷ 0 ∷ []) ∷ (128 ∷ 0 ∷ []) ∷ (4 ∷ 1 ∷ 1 ∷ 1 ∷ 0 ∷ []) ∷ (2 ∷ 0 ∷ 5 ∷ []) ∷ (3 ∷ 129 ∷ 8 ∷ 0 ∷ []) ∷ (1 ∷ 0 ∷ 5 ∷ []) ∷ []) ≡
-    0 ∷ 0 ∷ 0 ∷ 2 ∷ 2 ∷ 1 ∷ 2 ∷ []
+    ([] ∷ (5 ∷ 0 ∷ []) ∷ (128 ∷ 0 ∷ []) ∷ (4 ∷ 1 ∷ 1 ∷ 1 ∷ 0 ∷ []) ∷ (2 ∷ 0 ∷ 5 ∷ []) ∷ (3 ∷ 129 ∷ 8 ∷ 0 ∷ []) ∷ (1 ∷ 0 ∷ 5 ∷ []) ∷ (0 ∷ 5 ∷ []) ∷ []) ≡
+    0 ∷ 0 ∷ 0 ∷ 2 ∷ 2 ∷ 1 ∷ 2 ∷ 1 ∷ []
 unfolding computation placed readAt orLeft unreadTerms unreadBook readTo bookFault openingFault
 fault-samples = refl
 

@@ -18,10 +18,10 @@ use Rattle.model.specs.Call.{refuse, accept, guard, over, emit, copyParsed}
 use Rattle.model.specs.Archive.{variablesFirst, newNumber, oldNumber, renumbered, moved, storedBook, restoredBook, parseNumbers, allDistinct, parseList, argumentsLower, restoreBy, parseRestored, callRestore, Stored, notStored, emitBoth, storeParsed, callStore}
 use Rattle.theory.specs.Tests.{ArgumentsLower}
 use Rattle.theory.specs.Archive.{EachOnce, Renumbers, OpensAs, Stores, StoresAsAsked, StoredRestores, RestoredFrom, RestoresAsAsked, Restores, RestoresWhereItOpens, WithoutSeven, Archive}
-use Rattle.theory.proofs.Lists.Laws.{and-left, and-right}
+use Rattle.theory.proofs.Lists.Laws.{and-left, and-right, same-first, same-second}
 use Rattle.theory.proofs.Book.Gives.{Gives, gives-at, need-gives, andThen-gives}
 use Rattle.theory.proofs.Book.Round.{parsed-whole, written-back}
-use Rattle.theory.proofs.Book.Parses.{parsed-small}
+use Rattle.theory.proofs.Book.Parses.{parsed-small, decoded-opens}
 use Rattle.theory.proofs.Book.Opening.{RefusedBy, need-refused, then-refused, refused-too, ofBook, number-refused, book-refused, Positive}
 use Rattle.theory.proofs.Refusals.Deciding.{Tells, holds, fails, tells-of}
 use Rattle.theory.proofs.Refusals.Archive.{tells-lower}
@@ -195,19 +195,13 @@ pub restored-opens : (lim : Limits) (book bytes : List ℕ) (b : Book) (rest : L
 restored-opens lim book bytes b rest e = by-opens (restored-by lim book bytes b rest e)
 
 -- THERE AND BACK.
-the-first : (m n k l : ℕ) → k ∷ l ∷ [] ≡ m ∷ n ∷ [] → m ≡ k
-the-first m n k l h = cc
-
-the-second : (m n k l : ℕ) → k ∷ l ∷ [] ≡ m ∷ n ∷ [] → n ≡ l
-the-second m n k l h = cc
-
 pub stored-restores : StoredRestores
 stored-restores lim book out list w z m n h back =
     let s = stores-as-asked lim book out list z in
     let p : length (bookBytes (s .new)) ∷ length (numberBytes (s .list)) ∷ [] ≡ m ∷ n ∷ [] = sym (s .numbers) ∙ h in
     let r = s .stored-as .renumbers in
-    let opened : OpensAs lim (s .terms) = rw (written-back lim book (s .terms) [] w (s .opens)) (s .opens) in
-    rw (the-first m n _ _ p, the-second m n _ _ p, s .book-written, s .list-written)
+    let opened : OpensAs lim (s .terms) = decoded-opens lim book (s .terms) [] (s .opens) in
+    rw (← same-first p, ← same-second p, s .book-written, s .list-written)
     (restores lim (bookBytes (s .new)) back (s .new) [] (s .list) (s .stored-opens) (rw (r .as-many) (s .stored-as .each-once)) .works (s .terms) opened r
     ∙ ap (λ bytes. emit bytes [] back) (written-back lim book (s .terms) [] w (s .opens)))
 

@@ -1,12 +1,12 @@
 -- A book moved obeys the rules of terms where its arguments are lower than their terms. So a stored book opens, and it is what was
 -- asked for. Assumes nothing.
 use mathlib.Core.Path.{_≡_, refl, ap, sym, _∙_}
-use mathlib.Core.List.{List, [], _∷_, map}
+use mathlib.Core.List.{List, map}
 use mathlib.Core.Bool.{true, false, true≢false}
 use mathlib.Core.Option.{none}
-use Prim.Native.Nat.{ℕ, zero, suc, _<_}
+use Prim.Native.Nat.{ℕ, _<_}
 use native.Mathlib.Omega.{arith}
-use native.Mathlib.Nat.{not-suc-le-zero, le-of-suc-le-suc}
+use native.Mathlib.Nat.{not-suc-le-zero}
 use lib.ListN.{length, getD, length-map}
 use lib.Seq.{ext-getD}
 use Rattle.model.specs.Limits.{Limits}
@@ -15,6 +15,7 @@ use Rattle.model.specs.BookBytes.{parsed, parseBook}
 use Rattle.model.specs.Archive.{isVariable, variablesFirst, newNumber, oldNumber, renumbered, moved, storedBook}
 use Rattle.theory.specs.Tests.{ArgumentsLower}
 use Rattle.theory.specs.Archive.{Renumbers, StoredAs, StoredOnce, OpensAs}
+use Rattle.theory.proofs.Table.Search.{getD-map-lt}
 use Rattle.theory.proofs.Soundness.Facts.{Formed}
 use Rattle.theory.proofs.Book.Round.{nothing-bound, parsed-formed}
 use Rattle.theory.proofs.Book.Parses.{formed-opens, parsed-small}
@@ -37,15 +38,10 @@ unfolding renumbered arguments
 renumbered-count f var = refl
 renumbered-count f (app s args) = length-map args f
 
-map-at : (f : ℕ → ℕ) (xs : List ℕ) (i : ℕ) → i < length xs → getD (map f xs) i 0 ≡ f (getD xs i 0)
-map-at f [] i l = absurd (not-suc-le-zero l)
-map-at f (x ∷ xs) zero l = refl
-map-at f (x ∷ xs) (suc i) l = map-at f xs i (le-of-suc-le-suc l)
-
 pub renumbered-at : (f : ℕ → ℕ) (n : Node) (i : ℕ) → i < length (arguments n) → getD (arguments (renumbered f n)) i 0 ≡ f (getD (arguments n) i 0)
 unfolding renumbered arguments
 renumbered-at f var i l = absurd (not-suc-le-zero l)
-renumbered-at f (app s args) i l = map-at f args i l
+renumbered-at f (app s args) i l = getD-map-lt f args i 0 0 l
 
 renumbered-alike : (f g : ℕ → ℕ) (x y : Node) → alike (renumbered f x) (renumbered g y) ≡ alike x y
 unfolding renumbered alike

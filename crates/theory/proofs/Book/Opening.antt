@@ -12,12 +12,13 @@ use Rattle.model.specs.Limits.{Limits, maxArity, maxSymbol}
 use Rattle.model.specs.Lists.{all, isEmpty}
 use Rattle.model.specs.Term.{Book}
 use Rattle.model.specs.Step.{opened}
-use Rattle.model.specs.BookBytes.{Parsed, parsed, unparsed, andThen, need, fromRead, parseNumber, arityFits, parseArguments, parseApp, parseNode, parseTerms, parseBook}
+use Rattle.model.specs.BookBytes.{Parsed, parsed, unparsed, andThen, need, fromRead, parseNumber, arityFits, parseArguments, parseApp, parseNode, parseTerms, parseWritten, parseBook, asWritten}
 use Rattle.model.specs.Area.{areaLength}
 use Rattle.model.specs.Call.{refuse, accept, guard, openParsed, callOpen}
 use Rattle.theory.proofs.Lists.Laws.{and-left, and-right, true-T}
 use Rattle.theory.proofs.Soundness.Facts.{SoundFacts}
 use Rattle.theory.proofs.Area.Bytes.{over-carries}
+use Rattle.theory.proofs.Book.Written.{as-written}
 use Rattle.theory.proofs.Book.Round.{opened-sound}
 use Rattle.theory.proofs.Runs.Simulation.{Lives}
 
@@ -85,11 +86,12 @@ terms-refused (suc k) before bytes =
     (λ tag rest. then-refused ofBook (parseNode before tag rest) _ (node-refused before tag rest) (λ n rest′. terms-refused k (before ++ n ∷ []) rest′))
 
 pub book-refused : (lim : Limits) (bytes : List ℕ) → RefusedBy ofBook (parseBook lim bytes)
-unfolding parseBook
+unfolding parseWritten
 book-refused lim bytes =
-    then-refused ofBook (parseNumber bytes) _ (number-refused bytes)
+    rw (as-written lim bytes)
+    (then-refused ofBook (parseNumber (asWritten bytes)) _ (number-refused (asWritten bytes))
     (λ n rest. need-refused ofBook (leb n (lim .maxTerms)) 4 _ tt
-    (then-refused ofBook (parseTerms n [] rest) _ (terms-refused n [] rest) (λ b rest′. need-refused ofBook (isEmpty rest′) 3 _ tt tt)))
+    (then-refused ofBook (parseTerms n [] rest) _ (terms-refused n [] rest) (λ b rest′. need-refused ofBook (isEmpty rest′) 3 _ tt tt))))
 
 -- so they are not 0
 abbrev pub Positive : {A : Type 0} → Parsed A → Type 0

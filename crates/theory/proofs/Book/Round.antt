@@ -1,7 +1,7 @@
 -- A book's bytes: what opens is written back as it was, and opening gives a sound state. Assumes nothing.
 use mathlib.Core.Path.{_≡_, refl, ap, sym, _∙_}
 use mathlib.Core.List.{List, [], _∷_, _++_, append-assoc, append-nil, map}
-use mathlib.Core.Bool.{Bool, true, false}
+use mathlib.Core.Bool.{Bool}
 use mathlib.Core.Option.{none, some}
 use Prim.Native.Nat.{ℕ, zero, suc, _+_, _≤_, _<_, zero-le}
 use native.Mathlib.Nat.{le-of-suc-le-suc, not-suc-le-zero}
@@ -18,8 +18,9 @@ use Rattle.model.specs.Lists.{all, concatMap, isEmpty}
 use Rattle.model.specs.Term.{Node, var, app, symbol, arguments, alike, Book, Bindings, endsStep, ends}
 use Rattle.model.specs.Step.{opened}
 use Rattle.model.specs.Report.{numberBytes}
-use Rattle.model.specs.BookBytes.{parsed, fromRead, parseNumber, arityFits, parseArguments, parseApp, parseNode, parseTerms, parseBook, nodeNumbers, bookBytes}
+use Rattle.model.specs.BookBytes.{parsed, fromRead, parseNumber, arityFits, parseArguments, parseApp, parseNode, parseTerms, parseWritten, parseBook, asWritten, nodeNumbers, bookBytes}
 use Rattle.theory.proofs.Lists.Laws.{T-true, all-at, all-intro, concatMap-append}
+use Rattle.theory.proofs.Book.Written.{parsed-as-written, written-bytes}
 use Rattle.theory.proofs.Book.Gives.{Gives, gives-at, need-gives, andThen-gives, andThen-any}
 use Rattle.theory.proofs.Lists.AreBytes.{bytes-behind}
 use Rattle.theory.proofs.Soundness.Facts.{Formed, TableRight, SoundFacts}
@@ -98,25 +99,26 @@ empty-nil (x ∷ xs) h = absurd h
 
 -- a decoded book leaves no bytes
 pub parsed-whole : (lim : Limits) (bytes : List ℕ) (b : Book) (rest : List ℕ) → parseBook lim bytes ≡ parsed b rest → rest ≡ []
-unfolding parseBook
+unfolding parseWritten
 parsed-whole lim bytes b rest e =
-    gives-at (λ b rest. rest ≡ []) (parseBook lim bytes) b rest
-    (andThen-any _ (parseNumber bytes) _ λ n mid.
+    gives-at (λ b rest. rest ≡ []) (parseWritten lim (asWritten bytes)) b rest
+    (andThen-any _ (parseNumber (asWritten bytes)) _ λ n mid.
     need-gives _ (leb n (lim .maxTerms)) 4 _ λ l.
     andThen-any _ (parseTerms n [] mid) _ λ b′ rest′. need-gives _ (isEmpty rest′) 3 (parsed b′ []) λ h. refl)
-    e
+    (parsed-as-written lim bytes _ e)
 
--- writing what was decoded gives its bytes back
+-- writing what was decoded gives back its bytes as they are written
 pub written-back : (lim : Limits) (bytes : List ℕ) (b : Book) (rest : List ℕ) → T (areBytes bytes)
-    → parseBook lim bytes ≡ parsed b rest → bookBytes b ≡ bytes
-unfolding parseBook bookBytes concatMap
+    → parseBook lim bytes ≡ parsed b rest → bookBytes b ≡ asWritten bytes
+unfolding parseWritten bookBytes concatMap
 written-back lim bytes b rest h e =
-    gives-at (λ b rest. bookBytes b ≡ bytes) (parseBook lim bytes) b rest
-    (andThen-gives _ _ (parseNumber bytes) _ (number-written bytes [] bytes (wrote-none bytes h)) λ n mid w.
+    let written = asWritten bytes in
+    gives-at (λ b rest. bookBytes b ≡ written) (parseWritten lim written) b rest
+    (andThen-gives _ _ (parseNumber written) _ (number-written written [] written (wrote-none written (written-bytes bytes h))) λ n mid w.
     need-gives _ (leb n (lim .maxTerms)) 4 _ λ l.
-    andThen-gives _ _ (parseTerms n [] mid) _ (terms-written bytes n n [] mid (omega arith) w) λ b mid′ v.
+    andThen-gives _ _ (parseTerms n [] mid) _ (terms-written written n n [] mid (omega arith) w) λ b mid′ v.
     need-gives _ (isEmpty mid′) 3 _ λ l.
-    sym (rw (empty-nil mid′ l, append-nil) at (v .whole))) e
+    sym (rw (empty-nil mid′ l, append-nil) at (v .whole))) (parsed-as-written lim bytes _ e)
 
 -- a book's bindings where nothing is bound
 abbrev unbound : Book → Bindings
@@ -241,14 +243,14 @@ terms-formed (suc k) x before bytes e f =
 -- a book that is decoded obeys the rules of terms, and is not too long
 pub parsed-formed : (lim : Limits) (bytes : List ℕ) (b : Book) (rest : List ℕ) → parseBook lim bytes ≡ parsed b rest
     → Formed b (map (λ (n : Node). none) b) × (length b ≤ lim .maxTerms)
-unfolding parseBook
+unfolding parseWritten
 parsed-formed lim bytes b rest e =
-    gives-at (λ b rest. Formed b (unbound b) × (length b ≤ lim .maxTerms)) (parseBook lim bytes) b rest
-    (andThen-any _ (parseNumber bytes) _ λ n mid.
+    gives-at (λ b rest. Formed b (unbound b) × (length b ≤ lim .maxTerms)) (parseWritten lim (asWritten bytes)) b rest
+    (andThen-any _ (parseNumber (asWritten bytes)) _ λ n mid.
     need-gives _ (leb n (lim .maxTerms)) 4 _ λ l.
     andThen-gives _ _ (parseTerms n [] mid) _ (terms-formed n n [] mid (omega arith) empty-formed) λ b mid′ v.
     need-gives _ (isEmpty mid′) 3 _ λ l′.
-    (v .0, rw (v .1) (leb→le n (lim .maxTerms) l))) e
+    (v .0, rw (v .1) (leb→le n (lim .maxTerms) l))) (parsed-as-written lim bytes _ e)
 
 -- unfolding ends where the arguments end and nothing is bound
 step-ends : (below : ℕ → Bool) (x : Node) → ((i : ℕ) → i < length (arguments x) → T (below (getD (arguments x) i 0))) → T (endsStep below x none)

@@ -207,3 +207,10 @@ pub eqNumbers-refl : (xs : List ℕ) → T (eqNumbers xs xs)
 unfolding eqNumbers isEmpty
 eqNumbers-refl [] = tt
 eqNumbers-refl (x ∷ xs) = and-both (eqb x x) _ (eqb-refl x) (eqNumbers-refl xs)
+
+-- of two lists of two, part by part
+pub same-first : {m n k l : ℕ} → k ∷ l ∷ [] ≡ m ∷ n ∷ [] → k ≡ m
+same-first h = cc
+
+pub same-second : {m n k l : ℕ} → k ∷ l ∷ [] ≡ m ∷ n ∷ [] → l ≡ n
+same-second h = cc

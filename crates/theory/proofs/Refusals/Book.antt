@@ -7,13 +7,13 @@ use Prim.Native.Nat.{ℕ, zero, suc, _≤_, _<_}
 use native.Mathlib.Omega.{arith}
 use borrow.Author.Tests.{eqb-true, eq-eqb}
 use lib.ListN.{length, getD}
-use lib.Dec.{T, eqb, ltb}
+use lib.Dec.{T, eqb}
 use Rattle.leb128.specs.Number.{maxGroups, maxNumber, Read, number, cut, invalid, read}
 use Rattle.model.specs.Limits.{Limits, maxArity, maxSymbol}
 use Rattle.model.specs.Lists.{all}
 use Rattle.model.specs.Term.{Node, var, app, Book}
-use Rattle.model.specs.BookBytes.{Parsed, parsed, unparsed, andThen, need, fromRead, parseNumber, arityFits, parseArguments, parseApp, parseNode, parseTerms, parseBook}
-use Rattle.theory.specs.Tests.{Test, Decides, refuses, valueOf, restOf, numberTests, argumentTests, OneCount, nodeTests, termsTests, bookTests}
+use Rattle.model.specs.BookBytes.{Parsed, parsed, unparsed, andThen, need, fromRead, parseNumber, arityFits, parseArguments, parseApp, parseNode, parseTerms, parseWritten, parseBook}
+use Rattle.theory.specs.Tests.{Test, Decides, refuses, valueOf, restOf, numberTests, argumentTests, OneCount, nodeTests, termsTests, writtenTests, bookTests}
 use Rattle.theory.proofs.Lists.Laws.{all-at, all-intro, T-true, true-T}
 use Rattle.theory.proofs.Refusals.Deciding.{Tells, holds, fails, tells, tells-lt, tells-le, tells-empty}
 
@@ -131,9 +131,9 @@ terms-follow (suc k) before bytes =
     (λ n rest′. terms-follow k (before ++ n ∷ []) rest′))
 
 -- the whole book
-pub book-follows : (lim : Limits) (bytes : List ℕ) → Follows (parseBook lim bytes) (λ next. bookTests lim bytes (λ b. next b []))
-unfolding parseBook
-book-follows lim bytes =
+written-follows : (lim : Limits) (bytes : List ℕ) → Follows (parseWritten lim bytes) (λ next. writtenTests lim bytes (λ b. next b []))
+unfolding parseWritten
+written-follows lim bytes =
     then-follows (parseNumber bytes) (numberTests bytes) _
     (λ n rest next. refuses 4 (n ≤ lim .maxTerms) (termsTests n [] rest (λ b rest′. refuses 3 (rest′ ≡ []) (next b []))))
     (number-follows bytes)
@@ -142,3 +142,8 @@ book-follows lim bytes =
     (then-follows (parseTerms n [] rest) (termsTests n [] rest) _ (λ b rest′ next. refuses 3 (rest′ ≡ []) (next b []))
     (terms-follow n [] rest)
     (λ b rest′. need-follows 3 (tells-empty rest′) (parsed b []) (λ next. next b []) (λ next n d. d))))
+
+pub book-follows : (lim : Limits) (bytes : List ℕ) → Follows (parseBook lim bytes) (λ next. bookTests lim bytes (λ b. next b []))
+unfolding parseBook
+book-follows lim [] = λ next n d. d
+book-follows lim (x ∷ xs) = written-follows lim (x ∷ xs)

@@ -33,6 +33,7 @@ use Rattle.theory.proofs.Values.Equations.{name-lt}
 use Rattle.theory.proofs.Area.Layout.{root-arity}
 use Rattle.theory.proofs.Area.Small.{root-symbol}
 use Rattle.theory.proofs.Area.Bytes.{sound-carries}
+use Rattle.theory.proofs.Book.Written.{written-longer}
 use Rattle.theory.proofs.Book.Round.{parsed-formed, written-back}
 use Rattle.theory.proofs.Archive.VariablesFirst.{in-order}
 use Rattle.theory.proofs.Archive.Formed.{stored-as, stored-opens}
@@ -160,7 +161,8 @@ module _ (lim : Limits) (m : Modest lim) where
       → (length bytes ≤ bookMost (length b)) × (length b ≤ lim .maxTerms)
   book-read bytes b rest h e =
       let f = parsed-formed lim bytes b rest e in
-      (rw (written-back lim bytes b rest h e) at (book-long b _ (f .0) (omega (arith, f .1))), f .1)
+      let written = rw (written-back lim bytes b rest h e) at (book-long b _ (f .0) (omega (arith, f .1))) in
+      (omega (arith, written-longer bytes, written), f .1)
 
   -- any book whose bytes open as it
   opens-long : (b : Book) → OpensAs lim b → length (bookBytes b) ≤ bookMost (length b)
@@ -221,7 +223,8 @@ module _ (book : List ℕ) (b : Book) (rest : List ℕ) (h : T (areBytes book)) 
   copy-room : (out : List ℕ) → longestBook ≤ length out → callCopy office book out .refusal ≡ 0
   unfolding callCopy copyParsed guard emit accept
   copy-room out l =
-      let fits : length (bookBytes b) ≤ length out = rw (written-back office book b rest h e) (omega (arith, office-book-read)) in
+      let f = parsed-formed office book b rest e in
+      let fits : length (bookBytes b) ≤ length out = omega (arith, f .1, book-long b _ (f .0) (omega (arith, f .1))) in
       rw (e, le-leb (length (bookBytes b)) (length out) fits)
 
 -- a book, or a report, of a sound area that fits is not refused
@@ -288,5 +291,6 @@ lengths =
       room-to-restore = room-to-restore;
       stored-and-back = λ book out list back b rest w e p q.
           let z = room-to-store book out list b rest e p q in
-          (z, λ m n h. archive .stored-restores office book out list w z m n h back);
+          let s = archive .stores-as-asked office book out list z in
+          (z, (_, _, s .numbers, archive .stored-restores office book out list w z _ _ (s .numbers) back));
     }

@@ -31,8 +31,8 @@
 extern "C" {
 #endif
 
-/* The number of this interface. It changes with every change that may break a program: a call, a refusal, a limit, a field, the
-   bytes of a book, a list, a report or an area. */
+/* The number of this interface. It changes with every change that may break a program: a call, a refusal and when it is given, a limit, a
+   field, the bytes of a book, a list, a report or an area. CHANGELOG.md says what of an older number can still be read. */
 #define FIT_INTERFACE 2
 
 /* What a call returns. Of the tests of a call the first that fails decides; each call below lists its own in their order. */
@@ -137,9 +137,10 @@ enum { FIT_OPEN_PLACE = 0, FIT_COMMON = 1 };
    below 128, two below 16,384, at most three, always as few as will do.
 
    A book of no bytes, such as an empty file, is the book without terms, as the book 00 is: no test of a book refuses it. Its length is 0,
-   its pointer not null all the same: an empty file is read into an array of at least one byte. (A failed read gives no bytes either: see to
-   that first.) Written from an area, copied, stored and restored it is 00. So this is the one book that comes back with other bytes than
-   were read, and with more. */
+   its pointer not null all the same: an empty file is read into an array of at least one byte. A read that fails may give no bytes too,
+   which would be taken for this book, or for its list: test for that (fopen, ferror) before the call. fit_write, fit_copy_book,
+   fit_store_book and fit_restore_book each write 00 for it. So this is the one book that comes back with other bytes than were read, and
+   with more. */
 
 /* The length in bytes that an area of this capacity needs; 0 for a capacity that is not 1 to FIT_MAX_CAPACITY. */
 size_t fit_area_length(uint32_t capacity);
@@ -186,8 +187,8 @@ uint32_t fit_copy_book(const uint8_t *book, size_t book_length, uint8_t *out, si
 /* Stores a book, with no area: writes to the front of out the book with its variables first, in their old order, then its other terms in
    theirs, arguments renumbered; and to the front of list, for each new number in turn, the old one, as numbers of the same form and
    nothing else. Gives in *written how many bytes the stored book has, in *list_written how many the list. The stored book opens; it can be
-   longer than the book (603 bytes became 753, and none become 00), whose length is therefore not enough for out. Refuses the book as
-   fit_open does, then with FIT_TOO_SHORT where either output is too short: neither is written then. */
+   longer than the book (603 bytes became 753, and a book of no bytes becomes the byte 00), whose length is therefore not enough for out.
+   Refuses the book as fit_open does, then with FIT_TOO_SHORT where either output is too short: neither is written then. */
 uint32_t fit_store_book(const uint8_t *book, size_t book_length, uint8_t *out, size_t out_length, uint8_t *list, size_t list_length,
                         uint32_t *written, uint32_t *list_written);
 
@@ -198,7 +199,8 @@ uint32_t fit_store_book(const uint8_t *book, size_t book_length, uint8_t *out, s
    accepted, and a stored book and its list get one checksum. Refuses the book as fit_open does; then the list, of which as many numbers are
    read, one by one, as the book has terms, with FIT_CUT, FIT_BAD_NUMBER; after the last with FIT_LEFT_OVER; then with FIT_NAMES_NOTHING
    where any of them is no term, FIT_NAMED_TWICE, FIT_NOT_LOWER (in the restored book), FIT_TOO_SHORT. The list of a book without terms has
-   length 0, and a pointer that is not null all the same. */
+   length 0, and a pointer that is not null all the same; any byte beside such a book is left over. What fit_store_book wrote has at least one
+   byte: a stored book of no bytes was lost or not read, which this call cannot tell. */
 uint32_t fit_restore_book(const uint8_t *book, size_t book_length, const uint8_t *list, size_t list_length, uint8_t *out, size_t out_length,
                           uint32_t *written);
 

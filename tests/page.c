@@ -36,7 +36,7 @@ static int kept_in_files(void)
     if (stored_file == NULL || list_file == NULL)
         return 0;
     if (store_in_files(book, sizeof book - 1, stored_file, list_file) != FIT_CUT || !has(stored_file, book, 0) || !has(list_file, book, 0)
-        || restore_from_files(stored_file, list_file, out, &written) != FIT_CUT || written != 0)
+        || restore_from_files(stored_file, list_file, out, &written) != NOT_READ || written != 0)
         return 0;
     rewind(stored_file);
     rewind(list_file);

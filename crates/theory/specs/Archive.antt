@@ -79,8 +79,8 @@ pub record ReadsLists : Type 0 where
   pub only-these : (n : ℕ) (bytes list rest : List ℕ) → parseList n bytes ≡ parsed list rest
       → EachOnce n list × (rest ≡ []) × (T (areBytes bytes) → bytes ≡ numberBytes list)
 
--- The outcome of an accepted restoring: the bytes opened as the book `new`, the other bytes are those of a list that names each of its terms once, and
--- the output has the bytes of a book that opens, of which `new` is the renumbering by that list.
+-- The outcome of an accepted restoring: the bytes opened as the book `new`, the other bytes are those of a list that names each of its terms
+-- once, and the output has the bytes of a book that opens, of which `new` is the renumbering by that list.
 pub record RestoredFrom (lim : Limits) (book listBytes : List ℕ) (o : Outcome) : Type 0 where
   pub new : Book
   pub list : List ℕ

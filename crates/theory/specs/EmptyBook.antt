@@ -41,7 +41,7 @@ pub record NoBytes (lim : Limits) : Type 0 where
   pub list-cut : (book out : List ℕ) (b : Book) (rest : List ℕ) → parseBook lim book ≡ parsed b rest → 0 < length b
       → callRestore lim book [] out ≡ refuse 1 1 [] out
 
--- Written back from the area at any time after opening they are 00.
+-- Once opened, no bytes are written back from the area as 00, at any time.
 abbrev pub WrittenAs00 : Type 0
 WrittenAs00 = (lim : Limits) → Modest lim → (capacity : ℕ) (area : List ℕ) → Openable lim capacity area → (calls : List Request) (out : List ℕ)
     → let after = run lim (callOpen lim capacity [] area .area) calls in

@@ -7,7 +7,7 @@ use native.Mathlib.Omega.{arith}
 use lib.ListN.{length, take, drop, length-drop}
 use lib.Seq.{drop-drop, take-all, length-take-le}
 use lib.Dec.{T, eqb, leb}
-use borrow.Author.Tests.{le-leb, lt-leb, leb-true, leb-false}
+use borrow.Author.Tests.{lt-leb, leb-true, leb-false}
 use Rattle.leb128.specs.Number.{maxGroups, maxNumber}
 use Rattle.leb128.specs.Answer.{readAt}
 use Rattle.leb128.specs.declared.Decoded.{Decoded}
@@ -17,14 +17,14 @@ use Rattle.model.specs.Term.{Book}
 use Rattle.model.specs.Step.{State, opened}
 use Rattle.model.specs.BookBytes.{Parsed, parsed, unparsed, parseNumber, parseBook}
 use Rattle.model.specs.Area.{areaLength, areaBytes}
-use Rattle.model.specs.Call.{refuse, accept, guard, over, openParsed, callOpen}
+use Rattle.model.specs.Call.{refuse, accept, over, openParsed}
 use Rattle.model.specs.Session as Model
 use Rattle.model.specs.Session.{Printed, begin, withLength, session}
 use Rattle.theory.specs.Lengths.{longestSessionReport}
 use Rattle.theory.proofs.Soundness.Facts.{SoundFacts}
 use Rattle.theory.proofs.Area.Bytes.{over-carries}
 use Rattle.theory.proofs.Book.Round.{opened-sound}
-use Rattle.theory.proofs.Book.Opening.{book-positive}
+use Rattle.theory.proofs.Book.Opening.{book-positive, opens-by-book}
 use Rattle.book.proofs.reader.Below.{numberOf as readOf, number-read}
 use Rattle.session.specs.steps.Effects.{Start, notBegun, begun, openBook, start}
 use Rattle.session.specs.steps.Lines.{openingLine}
@@ -32,12 +32,6 @@ use Rattle.printing.specs.whole.Whole.{afterOpening, allSteps, sessionOn
 use Rattle.printing.proofs.whole.Progress.{steps-enough}
 use Rattle.printing.proofs.whole.Steps.{Carries, same-steps}
 pub use Rattle.printing.proofs.whole.Progress.{steps-go-on, one-by-one}
-
--- opening on an area that is long enough is decided by the book
-open-parsed : (book area : List ℕ) → areaLength office sessionCapacity ≤ length area
-    → callOpen office sessionCapacity book area ≡ openParsed office sessionCapacity area (parseBook office book)
-unfolding callOpen guard
-open-parsed book area h = rw (le-leb (areaLength office sessionCapacity) (length area) h)
 
 -- a refusal is not 0
 positive-refusal : (n : ℕ) → T (not (eqb n 0)) → eqb n 0 ≡ false
@@ -71,7 +65,7 @@ module _ (input area out : List ℕ) (long : areaLength office sessionCapacity �
   unfolding Model.orStop withLength openBook notBegun openingLine afterOpening
   same-book (Number n at) =
       let book : List ℕ = take n (drop at input) in
-      rw (length-drop, drop-drop, open-parsed book area long) (go (leb n (length input - at)))
+      rw (length-drop, drop-drop, opens-by-book office sessionCapacity book area (omega arith, omega arith, long)) (go (leb n (length input - at)))
     where
       go : (t : Bool) → cond t (begin (parseBook office (take n (drop at input))) (drop (at + n) input)) ((1 ∷ []) ∷ []) ≡
           shown (cond t (begun (at + n) (openParsed office sessionCapacity area (parseBook office (take n (drop at input))))) (notBegun area 1))

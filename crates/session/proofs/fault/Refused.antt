@@ -15,7 +15,8 @@ use Rattle.model.specs.Limits.{office, maxSession, sessionCapacity}
 use Rattle.model.specs.Term.{Book}
 use Rattle.model.specs.BookBytes.{Parsed, parsed, unparsed, parseBook}
 use Rattle.model.specs.Area.{areaLength}
-use Rattle.model.specs.Call.{accept, refuse, guard, openParsed, callOpen}
+use Rattle.model.specs.Call.{accept, refuse, openParsed, callOpen}
+use Rattle.theory.proofs.Book.Opening.{opens-by-book}
 use Rattle.book.specs.unread.Unread.{unreadBook, readTo}
 use Rattle.book.proofs.unread.Unread.{refused-there}
 use Rattle.session.specs.declared.steps.Begun.the-variants.{Refused, At}
@@ -39,10 +40,6 @@ module _ (area : List ℕ) (room : areaLength office sessionCapacity ≤ length 
       go true h = absurd (not-begun (sym h))
       go false h = ap unparsed (same-refusal h)
 
-  opens-by-book : (book : List ℕ) → callOpen office sessionCapacity book area ≡ openParsed office sessionCapacity area (parseBook office book)
-  unfolding callOpen guard
-  opens-by-book book = rw (le-leb (areaLength office sessionCapacity) (length area) room)
-
   module _ (input : List ℕ) where
     -- by the length that was read
     module _ (short : length input ≤ maxSession) where
@@ -58,7 +55,7 @@ module _ (area : List ℕ) (room : areaLength office sessionCapacity ≤ length 
               cond t (begun (at + n) (callOpen office sessionCapacity book area)) (notBegun area 1) .answer ≡ Refused k → FaultAt input k
           go true fits h =
               let book = take n (drop at input) in
-              let p = unopened (at + n) (parseBook office book) (rw (opens-by-book book) at h) in
+              let p = unopened (at + n) (parseBook office book) (rw (opens-by-book office sessionCapacity book area (omega arith, omega arith, room)) at h) in
               let q : openingFault input ≡ at + readTo office book = by-book (Number n at) e ∙ rw fits in
               book-refused n at e (leb-true n (length input - at) fits) (refused-there office book k p) q
           go false fits h =

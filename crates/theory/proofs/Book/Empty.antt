@@ -14,13 +14,13 @@ use Rattle.model.specs.Term.{Book}
 use Rattle.model.specs.Step.{opened}
 use Rattle.model.specs.Report.{numberBytes}
 use Rattle.model.specs.BookBytes.{parsed, unparsed, andThen, need, fromRead, parseNumber, parseWritten, parseBook, asWritten, bookBytes}
-use Rattle.model.specs.Area.{areaLength}
-use Rattle.model.specs.Call.{refuse, guard, over, emit, copyParsed, openParsed, callOpen, callCopy}
+use Rattle.model.specs.Call.{refuse, over, emit, copyParsed, openParsed, callOpen, callCopy}
 use Rattle.model.specs.Archive.{variablesFirst, moved, storedBook, restoredBook, parseNumbers, allDistinct, parseList, argumentsLower, restoreBy, parseRestored, callRestore, emitBoth, storeParsed, callStore}
 use Rattle.model.specs.Session.{orStop, begin, withLength, steps, session}
-use Rattle.theory.specs.EmptyBook.{Openable, NoBytes, NothingElseIsNew, OneBookDiffers, SameBytesElse, RefusedAsCut, BreaksOff, InSessions}
+use Rattle.theory.specs.EmptyBook.{NoBytes, NothingElseIsNew, OneBookDiffers, SameBytesElse, RefusedAsCut, BreaksOff, InSessions}
 use Rattle.theory.proofs.Book.Written.{as-written, some-written}
 use Rattle.theory.proofs.Book.Round.{written-back}
+use Rattle.theory.proofs.Book.Opening.{opens-by-book}
 use Rattle.theory.proofs.Book.Fronts as Fronts
 
 -- what is written of the book without terms
@@ -37,13 +37,6 @@ unfolding variablesFirst keep from numberBytes concatMap
 none-listed = refl
 
 module _ (lim : Limits) where
-  -- opening, where it comes to the book
-  opens-by : (capacity : ℕ) (book area : List ℕ) → Openable lim capacity area
-      → callOpen lim capacity book area ≡ openParsed lim capacity area (parseBook lim book)
-  unfolding callOpen guard
-  opens-by capacity book area (low, high, long) =
-      rw (le-leb 1 capacity low, le-leb capacity (lim .maxCapacity) high, le-leb (areaLength lim capacity) (length area) long)
-
   list-cut : (book out : List ℕ) (b : Book) (rest : List ℕ) → parseBook lim book ≡ parsed b rest → 0 < length b
       → callRestore lim book [] out ≡ refuse 1 1 [] out
   unfolding callRestore parseRestored restoreBy parseList parseNumbers parseNumber fromRead read readGroups atMost andThen copyParsed
@@ -75,7 +68,7 @@ module _ (lim : Limits) where
       record {
         parses = refl;
         parses-as-00 = as-00;
-        opening = λ capacity area o. opens-by capacity [] area o;
+        opening = λ capacity area o. opens-by-book lim capacity [] area o;
         opening-as-00 = λ capacity area. rw (← as-00);
         copying = λ out. rw bytes-of-none;
         storing = stored-none;
@@ -91,7 +84,7 @@ module _ (lim : Limits) where
   cut-by-calls book e =
       record {
         parses = e;
-        opening = λ capacity area o. opens-by capacity book area o ∙ rw e;
+        opening = λ capacity area o. opens-by-book lim capacity book area o ∙ rw e;
         copying = λ out. rw e;
         storing = λ out list. rw e;
         restoring = λ list out. rw e;

@@ -6,7 +6,7 @@ use Prim.Native.Nat.{ℕ, zero, suc}
 use native.Mathlib.Omega.{arith}
 use lib.ListN.{length}
 use lib.Dec.{T, eqb, ltb, leb, leb→le}
-use borrow.Author.Tests.{leb-true, ne-eqb}
+use borrow.Author.Tests.{leb-true, le-leb, ne-eqb}
 use Rattle.leb128.specs.Number.{maxGroups, maxNumber, Read, number, cut, invalid, read}
 use Rattle.model.specs.Limits.{Limits, maxArity, maxSymbol}
 use Rattle.model.specs.Lists.{all, isEmpty}
@@ -15,6 +15,7 @@ use Rattle.model.specs.Step.{opened}
 use Rattle.model.specs.BookBytes.{Parsed, parsed, unparsed, andThen, need, fromRead, parseNumber, arityFits, parseArguments, parseApp, parseNode, parseTerms, parseWritten, parseBook, asWritten}
 use Rattle.model.specs.Area.{areaLength}
 use Rattle.model.specs.Call.{refuse, accept, guard, openParsed, callOpen}
+use Rattle.theory.specs.EmptyBook.{Openable}
 use Rattle.theory.proofs.Lists.Laws.{and-left, and-right, true-T}
 use Rattle.theory.proofs.Soundness.Facts.{SoundFacts}
 use Rattle.theory.proofs.Area.Bytes.{over-carries}
@@ -101,6 +102,13 @@ pub book-positive : (lim : Limits) (bytes : List ℕ) → Positive (parseBook li
 book-positive lim bytes =
     refused-too ofBook (λ n. not (eqb n 0))
     (λ n h. rw (ne-eqb n 0 (λ e. omega (arith, leb→le 1 n (and-left (leb 1 n) (leb n 6) h)))) tt) (parseBook lim bytes) (book-refused lim bytes)
+
+-- opening at a capacity in its range, on an area that is long enough, is decided by the book
+pub opens-by-book : (lim : Limits) (capacity : ℕ) (book area : List ℕ) → Openable lim capacity area
+    → callOpen lim capacity book area ≡ openParsed lim capacity area (parseBook lim book)
+unfolding callOpen guard
+opens-by-book lim capacity book area (low, high, long) =
+    rw (le-leb 1 capacity low, le-leb capacity (lim .maxCapacity) high, le-leb (areaLength lim capacity) (length area) long)
 
 -- The book of the bytes, and its state on the area.
 pub record Opens (lim : Limits) (capacity : ℕ) (book area : List ℕ) : Type 0 where

@@ -139,8 +139,8 @@ enum { FIT_OPEN_PLACE = 0, FIT_COMMON = 1 };
    A book of no bytes, such as an empty file, is the book without terms, as the book 00 is: no test of a book refuses it. Its length is 0,
    its pointer not null all the same: an empty file is read into an array of at least one byte. A read that fails may give no bytes too,
    which would be taken for this book, or for its list: test for that (fopen, ferror) before the call. fit_write, fit_copy_book,
-   fit_store_book and fit_restore_book each write 00 for it. So this is the one book that comes back with other bytes than were read, and
-   with more. */
+   fit_store_book and fit_restore_book each write 00 for it. So this is the one book that, written back, copied, or stored and restored, comes
+   back with other bytes than were read. */
 
 /* The length in bytes that an area of this capacity needs; 0 for a capacity that is not 1 to FIT_MAX_CAPACITY. */
 size_t fit_area_length(uint32_t capacity);

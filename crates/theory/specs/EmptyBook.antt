@@ -22,24 +22,30 @@ use Rattle.theory.specs.Run.{Request, run}
 abbrev pub Openable : Limits → ℕ → List ℕ → Type 0
 Openable lim capacity area = (1 ≤ capacity) × (capacity ≤ lim .maxCapacity) × (areaLength lim capacity ≤ length area)
 
--- Each call takes no bytes for the book without terms, with any limits, as it takes the book 00: no test of a book refuses them, and what is
--- written for them is 00. 4 and 7 before the book and 13 behind it remain.
+-- Each call takes no bytes for the book without terms, with any limits: no test of a book refuses them, and what is written for them is
+-- 00. 4 and 7 before the book, the list's refusals and 13 behind it remain.
 pub record NoBytes (lim : Limits) : Type 0 where
   pub parses : parseBook lim [] ≡ parsed [] []
-  pub parses-as-00 : parseBook lim [] ≡ parseBook lim (0 ∷ [])
   pub opening : (capacity : ℕ) (area : List ℕ) → Openable lim capacity area
       → callOpen lim capacity [] area ≡ accept [] (over (areaBytes lim (opened [] capacity)) area) []
-  pub opening-as-00 : (capacity : ℕ) (area : List ℕ) → callOpen lim capacity [] area ≡ callOpen lim capacity (0 ∷ []) area
   pub copying : (out : List ℕ) → callCopy lim [] out ≡ emit (0 ∷ []) [] out
   pub storing : (out list : List ℕ) → callStore lim [] out list ≡ emitBoth (0 ∷ []) [] out list
   pub restoring : (out : List ℕ) → callRestore lim [] [] out ≡ emit (0 ∷ []) [] out
-  -- stored and restored
+  -- stored, which is accepted, and restored
   pub there-and-back : (out list back : List ℕ) → 1 ≤ length out → let o = callStore lim [] out list in
-      callRestore lim (take 1 (o .output)) (take 0 (o .list)) back ≡ emit (0 ∷ []) [] back
+      (o .refusal ≡ 0) × (o .numbers ≡ 1 ∷ 0 ∷ []) × (callRestore lim (take 1 (o .output)) (take 0 (o .list)) back ≡ emit (0 ∷ []) [] back)
   -- any byte of a list beside them is left over, 3; and a list of no bytes beside a book with terms is cut, 1
   pub list-left-over : (x : ℕ) (xs out : List ℕ) → callRestore lim [] (x ∷ xs) out ≡ refuse 1 3 [] out
   pub list-cut : (book out : List ℕ) (b : Book) (rest : List ℕ) → parseBook lim book ≡ parsed b rest → 0 < length b
       → callRestore lim book [] out ≡ refuse 1 1 [] out
+
+-- No call tells them from the book 00, whatever else it is lent.
+pub record As00 (lim : Limits) : Type 0 where
+  pub parses : parseBook lim [] ≡ parseBook lim (0 ∷ [])
+  pub opening : (capacity : ℕ) (area : List ℕ) → callOpen lim capacity [] area ≡ callOpen lim capacity (0 ∷ []) area
+  pub copying : (out : List ℕ) → callCopy lim [] out ≡ callCopy lim (0 ∷ []) out
+  pub storing : (out list : List ℕ) → callStore lim [] out list ≡ callStore lim (0 ∷ []) out list
+  pub restoring : (list out : List ℕ) → callRestore lim [] list out ≡ callRestore lim (0 ∷ []) list out
 
 -- Once opened, no bytes are written back from the area as 00, at any time.
 abbrev pub WrittenAs00 : Type 0
@@ -47,12 +53,12 @@ WrittenAs00 = (lim : Limits) → Modest lim → (capacity : ℕ) (area : List �
     → let after = run lim (callOpen lim capacity [] area .area) calls in
     callWrite lim after out ≡ emit (0 ∷ []) after out
 
--- Nothing else is new: the reader of books as they are written, which refuses no bytes with 1, reads all others.
+-- Nothing else is new: every other book has the answer of the reader of books as they are written, which refuses no bytes with 1.
 abbrev pub NothingElseIsNew : Type 0
 NothingElseIsNew = (lim : Limits)
     → (parseWritten lim [] ≡ unparsed 1) × ((bytes : List ℕ) → (bytes ≡ [] → ⊥) → parseBook lim bytes ≡ parseWritten lim bytes)
 
--- What is written for a book that opens are the bytes that were read, but for no bytes, where it is 00.
+-- What is written for a book that opens (`bookBytes`) is what was read, but for no bytes, for which it is 00.
 abbrev pub OneBookDiffers : Type 0
 OneBookDiffers = (lim : Limits) (bytes : List ℕ) (b : Book) (rest : List ℕ) → T (areBytes bytes) → parseBook lim bytes ≡ parsed b rest
     → ((bytes ≡ [] → ⊥) → bookBytes b ≡ bytes) × (bytes ≡ [] → bookBytes b ≡ 0 ∷ [])
@@ -75,7 +81,7 @@ BreaksOff = (lim : Limits) (book : List ℕ) (b : Book) (rest : List ℕ) → pa
     → (n : ℕ) → 0 < n → n < length book → RefusedAsCut lim (take n book)
 
 -- A session whose book has length 0 opens, unless it is too long, and its steps follow, on the book without terms. One of no bytes lacks
--- this length and prints 1, and so does one whose book breaks off.
+-- its book's length and prints 1; one that is not too long and whose book breaks off prints 1 too.
 pub record InSessions : Type 0 where
   pub opens : (bytes : List ℕ) → length (0 ∷ bytes) ≤ maxSession
       → session (0 ∷ bytes) ≡ (0 ∷ []) ∷ steps (length bytes) (opened [] sessionCapacity) bytes
@@ -85,6 +91,7 @@ pub record InSessions : Type 0 where
 
 pub record EmptyBook : Type 0 where
   pub no-bytes : (lim : Limits) → NoBytes lim
+  pub as-00 : (lim : Limits) → As00 lim
   pub written-as-00 : WrittenAs00
   pub nothing-else-is-new : NothingElseIsNew
   pub one-book-differs : OneBookDiffers

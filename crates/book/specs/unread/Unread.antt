@@ -44,7 +44,7 @@ UnreadIsLeft = (lim : Limits) (bytes : List ℕ) → unreadBook lim bytes ≡ dr
 abbrev pub AcceptedIsRead : Type 0
 AcceptedIsRead = (lim : Limits) (bytes : List ℕ) (b : Book) (rest : List ℕ) → parseBook lim bytes ≡ parsed b rest → readTo lim bytes ≡ length bytes
 
--- And the part at that position is the one that is refused, with k: the number of terms, at the front; a term, behind those before it;
+-- And the part at that position is the one that is refused, with k: the number of terms, at the front of some bytes; a term, behind those before it;
 -- or what is left behind the last term.
 pub data RefusedAt (lim : Limits) (bytes : List ℕ) (k : ℕ) : Type 0 where
   number-refused : 0 < length bytes → numberOfTerms lim bytes ≡ unparsed k → readTo lim bytes ≡ 0 → RefusedAt lim bytes k

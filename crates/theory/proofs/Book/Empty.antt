@@ -17,7 +17,7 @@ use Rattle.model.specs.BookBytes.{parsed, unparsed, andThen, need, fromRead, pa
 use Rattle.model.specs.Call.{refuse, over, emit, copyParsed, openParsed, callOpen, callCopy}
 use Rattle.model.specs.Archive.{variablesFirst, moved, storedBook, restoredBook, parseNumbers, allDistinct, parseList, argumentsLower, restoreBy, parseRestored, callRestore, emitBoth, storeParsed, callStore}
 use Rattle.model.specs.Session.{orStop, begin, withLength, steps, session}
-use Rattle.theory.specs.EmptyBook.{NoBytes, NothingElseIsNew, OneBookDiffers, SameBytesElse, RefusedAsCut, BreaksOff, InSessions}
+use Rattle.theory.specs.EmptyBook.{NoBytes, As00, NothingElseIsNew, OneBookDiffers, SameBytesElse, RefusedAsCut, BreaksOff, InSessions}
 use Rattle.theory.proofs.Book.Written.{as-written, some-written}
 use Rattle.theory.proofs.Book.Round.{written-back}
 use Rattle.theory.proofs.Book.Opening.{opens-by-book}
@@ -43,10 +43,20 @@ module _ (lim : Limits) where
   list-cut book out [] rest e l = absurd (omega arith)
   list-cut book out (n ∷ ns) rest e l = rw e
 
-  -- as the book 00
-  as-00 : parseBook lim [] ≡ parseBook lim (0 ∷ [])
+  parses-as-00 : parseBook lim [] ≡ parseBook lim (0 ∷ [])
   unfolding asWritten
-  as-00 = as-written lim [] ∙ sym (as-written lim (0 ∷ []))
+  parses-as-00 = as-written lim [] ∙ sym (as-written lim (0 ∷ []))
+
+  pub as-00 : As00 lim
+  unfolding callOpen callCopy callStore callRestore parseRestored
+  as-00 =
+      record {
+        parses = parses-as-00;
+        opening = λ capacity area. rw (← parses-as-00);
+        copying = λ out. rw (← parses-as-00);
+        storing = λ out list. rw (← parses-as-00);
+        restoring = λ list out. rw (← parses-as-00);
+      }
 
   stored-none : (out list : List ℕ) → callStore lim [] out list ≡ emitBoth (0 ∷ []) [] out list
   unfolding parseBook callStore storeParsed
@@ -57,19 +67,18 @@ module _ (lim : Limits) where
   restored-none out = rw bytes-of-none
 
   there-and-back : (out list back : List ℕ) → 1 ≤ length out → let o = callStore lim [] out list in
-      callRestore lim (take 1 (o .output)) (take 0 (o .list)) back ≡ emit (0 ∷ []) [] back
-  unfolding emitBoth over callRestore parseRestored
+      (o .refusal ≡ 0) × (o .numbers ≡ 1 ∷ 0 ∷ []) × (callRestore lim (take 1 (o .output)) (take 0 (o .list)) back ≡ emit (0 ∷ []) [] back)
+  unfolding emitBoth over
   there-and-back out list back l =
-      rw (stored-none out list, le-leb 1 (length out) l, le-leb 0 (length list) (omega arith), ← as-00) (restored-none back)
+      rw (stored-none out list, le-leb 1 (length out) l, le-leb 0 (length list) (omega arith))
+      (refl, refl, sym (as-00 .restoring [] back) ∙ restored-none back)
 
   pub no-bytes : NoBytes lim
-  unfolding parseBook openParsed callOpen callCopy copyParsed callRestore parseRestored restoreBy parseList parseNumbers andThen need isEmpty
+  unfolding parseBook openParsed callCopy copyParsed callRestore parseRestored restoreBy parseList parseNumbers andThen need isEmpty
   no-bytes =
       record {
         parses = refl;
-        parses-as-00 = as-00;
         opening = λ capacity area o. opens-by-book lim capacity [] area o;
-        opening-as-00 = λ capacity area. rw (← as-00);
         copying = λ out. rw bytes-of-none;
         storing = stored-none;
         restoring = restored-none;

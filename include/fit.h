@@ -1,12 +1,14 @@
 /* The fit table's C interface: libfit.a, for x86-64 Linux, in C99 or C++11. This header is enough to write a program; docs/C-API.md has
    the reasons, worked bytes and advice, docs/SPEC.md the rules.
 
-   A book is a list of terms, numbered from 0: variables (open choices), and symbols over terms of lower numbers. An area is a run of
-   bytes that the caller lends; it holds a book, its bindings (choices that were fixed), and a table of entries. A line is a pair of
-   terms; its entry is read as a pattern, the narrowest one that covers both: a common entry is a symbol over its argument entries, an
-   open place is where the two sides have no common symbol. A free variable has no symbol, so one free variable on both sides is an open
-   place too. A bound variable has the value of its term. Two terms have the same value where, with bindings followed, they are one free
-   variable, or have one symbol and arguments of the same values: so two different free variables never have.
+   A book is a list of terms, numbered from 0: variables (open choices), and symbols over terms of lower numbers; one symbol may have
+   different counts of arguments in one book. An area is a run of bytes that the caller lends; it holds a book, its bindings (choices that
+   were fixed), and a table of entries. A line is a pair of terms; its entry is read as a pattern, the narrowest one that covers both: a
+   common entry is a symbol over its argument entries, an open place is where the two sides have no common symbol with as many arguments.
+   So f(a) and f(a, b) have nothing in common at that place, no more than f(a) and g(a) have. A free variable has no symbol, so one free
+   variable on both sides is an open place too. A bound variable has the value of its term. Two terms have the same value where, with
+   bindings followed, they are one free variable, or have one symbol and as many arguments, of the same values: so two different free
+   variables never have.
 
    - Every call returns 0 (FIT_OK) or the number of a refusal; fit_area_length alone returns a length. Numbers are never truncated:
      one that is out of range is refused.
@@ -33,7 +35,7 @@ extern "C" {
 
 /* The number of this interface. It changes with every change that may break a program: a call, a refusal and when it is given, a limit, a
    field, the bytes of a book, a list, a report or an area. CHANGELOG.md says what of an older number can still be read. */
-#define FIT_INTERFACE 2
+#define FIT_INTERFACE 3
 
 /* What a call returns. Of the tests of a call the first that fails decides; each call below lists its own in their order. */
 enum {
@@ -43,7 +45,7 @@ enum {
     FIT_LEFT_OVER = 3,       /* bytes after the last term of a book, or after the last number of a list */
     FIT_OUT_OF_RANGE = 4,    /* a number of terms, a symbol, a count of arguments or a capacity is out of range */
     FIT_NOT_LOWER = 5,       /* an argument is its own term or a higher one, in a book or in the book that is restored */
-    FIT_TWO_COUNTS = 6,      /* a symbol has two counts of arguments in one book */
+    FIT_TWO_COUNTS = 6,      /* not given since interface 3, which accepts a symbol with two counts; the number is not used again */
     FIT_NOT_SOUND = 7,       /* the area is too short, or its parts do not agree; what an accepted call leaves is sound */
     FIT_NAMES_NOTHING = 8,   /* there is no such term, or no such entry */
     FIT_NOT_FREE = 9,        /* what is to be bound has a symbol, or is bound already */
@@ -71,7 +73,7 @@ static inline const char *fit_refusal(uint32_t refusal)
     case FIT_NOT_LOWER:
         return "an argument that is not lower than its term";
     case FIT_TWO_COUNTS:
-        return "a symbol with two counts";
+        return "a symbol with two counts, refused before interface 3 only";
     case FIT_NOT_SOUND:
         return "an area that is too short or not sound";
     case FIT_NAMES_NOTHING:
@@ -123,7 +125,7 @@ enum {
     FIT_RIGHT = 1,    /* the term on the right */
     FIT_KIND = 2,     /* FIT_OPEN_PLACE or FIT_COMMON */
     FIT_SYMBOL = 3,   /* of a common entry the symbol of both sides, else 0 */
-    FIT_COUNT = 4,    /* its number of arguments, else 0 */
+    FIT_COUNT = 4,    /* of a common entry how many arguments that symbol has on both sides, else 0 */
     FIT_ARGUMENT = 5, /* the first of FIT_MAX_ARGUMENTS places: the argument entries, left to right, then 0 */
     FIT_SAME_AS = 13, /* the lowest entry with the same two values; open places with one same-as are one open place */
     FIT_FIELDS = 14,  /* the number of fields */
@@ -133,8 +135,9 @@ enum {
 enum { FIT_OPEN_PLACE = 0, FIT_COMMON = 1 };
 
 /* The bytes of a book are numbers: the number of terms; for each term 0 for a variable, or symbol plus 1, the count of its arguments
-   and their term numbers. A number is written seven bits to a byte, the lowest first, with 0x80 set in each byte but the last: one byte
-   below 128, two below 16,384, at most three, always as few as will do.
+   and their term numbers. The count is the term's own: another term of the same symbol may have another. A number is written seven bits to
+   a byte, the lowest first, with 0x80 set in each byte but the last: one byte below 128, two below 16,384, at most three, always as few as
+   will do.
 
    A book of no bytes, such as an empty file, is the book without terms, as the book 00 is: no test of a book refuses it. Its length is 0,
    its pointer not null all the same: an empty file is read into an array of at least one byte. A read that fails may give no bytes too,
@@ -147,8 +150,8 @@ size_t fit_area_length(uint32_t capacity);
 
 /* Opens a book in an area, whatever that held, with no entries, no lines and nothing bound. Refuses with FIT_OUT_OF_RANGE (the
    capacity), FIT_NOT_SOUND (the area is too short), then the book: its numbers are read one by one, and the first bad one decides,
-   FIT_CUT, FIT_BAD_NUMBER, FIT_OUT_OF_RANGE, for a count then FIT_TWO_COUNTS, for an argument FIT_NOT_LOWER; after the last
-   FIT_LEFT_OVER. A book of no bytes has no numbers, and leaves the area that the book 00 leaves. */
+   FIT_CUT, FIT_BAD_NUMBER, FIT_OUT_OF_RANGE, for an argument FIT_NOT_LOWER; after the last FIT_LEFT_OVER. A book of no bytes has no
+   numbers, and leaves the area that the book 00 leaves. */
 uint32_t fit_open(uint32_t capacity, const uint8_t *book, size_t book_length, uint8_t *area, size_t area_length);
 
 /* Adds the line of the terms l and r, in this order; lines are numbered from 0 as they are added. Gives the line's entry in *entry: the

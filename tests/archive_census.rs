@@ -1,12 +1,12 @@
 //! Counts what was stored and restored, so that a comparison fails where some kind of case never occurred.
 
 use crate::kinds;
-use crate::reference::{arguments_are_lower, decode, decode_numbers, written_back, Answer, Term, OFFICE};
+use crate::reference::{arguments_are_lower, decode, decode_numbers, has_arities, has_two_arities, written_back, Answer, Term, OFFICE};
 
 /// The calls and their parts, and the answers that docs/SPEC.md gives each: 0 and its refusals.
 const CALLS: [(&str, &[usize]); 3] = [
-    ("storing", &[0, 1, 2, 3, 4, 5, 6, 13]),
-    ("restoring from bytes that are no book", &[1, 2, 3, 4, 5, 6]),
+    ("storing", &[0, 1, 2, 3, 4, 5, 13]),
+    ("restoring from bytes that are no book", &[1, 2, 3, 4, 5]),
     ("restoring from a book", &[0, 1, 2, 3, 5, 8, 13, 14]),
 ];
 const ANSWERS: usize = 15;
@@ -24,6 +24,9 @@ kinds! {
     StoredOnlyVariables, "a book of variables alone stored";
     StoredNoVariables, "a book without variables stored";
     StoredFull, "a book of 1,024 terms stored";
+    StoredTwoArities, "a book with a symbol of two arities stored";
+    StoredArities0, "of these, with arity 0 and 1";
+    StoredArities7, "of these, with arities 7 and 8";
     TermsAbove, "a book of 1,025 terms refused";
     BookShort, "storing refused with 13, by the output for the book alone";
     ListShort, "storing refused with 13, by the output for the list alone";
@@ -67,6 +70,7 @@ kinds! {
     NoBytesNoNumber, "a list refused with 3 beside a book of no bytes, and it begins with no number";
     EmptyList, "a list of no bytes beside a book with terms";
     RestoredFull, "a book of 1,024 terms restored";
+    RestoredTwoArities, "a book with a symbol of two arities restored by a list that is not its own inverse";
 }
 
 /// What a run has seen.
@@ -120,6 +124,9 @@ impl Census {
         self.note(Kind::StoredOnlyVariables, variables == terms.len() && variables > 0);
         self.note(Kind::StoredNoVariables, variables == 0 && !terms.is_empty());
         self.note(Kind::StoredFull, terms.len() == OFFICE.terms);
+        self.note(Kind::StoredTwoArities, has_two_arities(&terms));
+        self.note(Kind::StoredArities0, has_arities(&terms, [0, 1]));
+        self.note(Kind::StoredArities7, has_arities(&terms, [7, 8]));
     }
 
     /// Restoring into an output of a length, where a list that names every term once needs another.
@@ -200,6 +207,7 @@ impl Census {
         self.note(Kind::RestoredLonger, needed > written_back(book).len());
         self.note(Kind::RestoredNoTerms, book == [0]);
         self.note(Kind::RestoredFull, terms.len() == OFFICE.terms);
+        self.note(Kind::RestoredTwoArities, has_two_arities(terms) && !is_own_inverse(numbers));
     }
 
     pub fn calls(&self) -> u64 {

@@ -1,8 +1,9 @@
 /* The readers of include/fit_area.h against the library, on many random areas. Of each area the header is compared with the steps that
    were made, the entries with fit_entry, the book with fit_write and with the bytes it was opened from, the bindings with the
-   choices, and a report made of nothing but the readers' numbers with fit_report. Every area is made from its own seed, which is
-   printed where something differs. It counts kinds of areas, and fails where one never occurred. `tests/run area_readers`; SEED and
-   TIMES in the environment are as for the other comparisons. */
+   choices, the kinds of the entries with what the readers give of their two sides, and a report made of nothing but the readers' numbers
+   with fit_report. In some books a symbol has several counts. Every area is made from its own seed, which is printed where something
+   differs. It counts kinds of areas, and fails where one never occurred. `tests/run area_readers`; SEED and TIMES in the environment are as
+   for the other comparisons. */
 #include "fit_area.h"
 
 #include <inttypes.h>
@@ -48,6 +49,7 @@ static uint32_t between(uint32_t least, uint32_t most)
     X(SYMBOL_ABOVE_127, "terms of a symbol above 127") \
     X(HIGHEST_SYMBOL, "terms of symbol 4,095") \
     X(MOST_ARGUMENTS, "terms of eight arguments") \
+    X(OTHER_COUNT, "terms of a symbol that a lower term has with another count") \
     X(FREE, "free variables") \
     X(BOUND, "bound variables") \
     X(BOUND_TO_0, "variables bound to term 0") \
@@ -56,7 +58,10 @@ static uint32_t between(uint32_t least, uint32_t most)
     X(LONG_CHAIN, "chains of 100 bindings or more") \
     X(NO_ENTRIES, "areas without entries") \
     X(OPEN, "open entries") \
+    X(UNLIKE_COUNTS, "open entries whose sides stand for one symbol with unlike counts") \
+    X(UNLIKE_BY_CHOICE, "of these, entries with a bound variable on a side") \
     X(COMMON, "common entries") \
+    X(COMMON_OTHER_COUNT, "common entries of a symbol that a lower common entry has with another count") \
     X(COMMON_MOST_ARGUMENTS, "common entries of eight arguments") \
     X(OWN_SAME_AS, "entries whose same-as is their own number") \
     X(LOWER_SAME_AS, "entries whose same-as is lower") \
@@ -154,14 +159,15 @@ struct size {
     uint32_t symbols, least_arguments, most_arguments, terms, capacity, steps;
 };
 
-/* Symbols are all different, so each has one count. Low ones, any, and the highest. */
+/* Symbols are all different, so each has one count, or in one book of three any, so that one may have several. Low ones, any, and the
+   highest. */
 static void make_symbols(struct term symbols[], const struct size *size)
 {
-    uint32_t base = below(4) == 0 ? 0 : below(FIT_MAX_SYMBOL + 2 - size->symbols), i;
+    uint32_t base = below(4) == 0 ? 0 : below(FIT_MAX_SYMBOL + 2 - size->symbols), different = below(3), i;
     if (below(8) == 0)
         base = FIT_MAX_SYMBOL + 1 - size->symbols;
     for (i = 0; i < size->symbols; i++) {
-        symbols[i].symbol_plus_1 = base + i + 1;
+        symbols[i].symbol_plus_1 = base + 1 + (different ? i : below(size->symbols));
         symbols[i].count = i == 0 ? 0 : between(size->least_arguments, size->most_arguments);
     }
 }
@@ -378,6 +384,36 @@ static int entries_agree(void)
     return 1;
 }
 
+/* Whether both terms, which are not bound, have a symbol, and the same one. */
+static int same_symbol(uint32_t t, uint32_t other)
+{
+    return !fit_area_is_variable(area, t) && !fit_area_is_variable(area, other) && fit_area_symbol(area, t) == fit_area_symbol(area, other);
+}
+
+/* Whether both have the same symbol, with as many arguments. */
+static int alike(uint32_t t, uint32_t other)
+{
+    return same_symbol(t, other) && fit_area_count(area, t) == fit_area_count(area, other);
+}
+
+/* An entry is common exactly where its sides stand for terms that are alike, and then has their symbol and count. */
+static int kinds_agree(void)
+{
+    uint32_t fields[FIT_FIELDS], i, l, r;
+    int common;
+    for (i = 0; i < fit_area_entries(area); i++) {
+        fit_area_entry(area, i, fields);
+        l = fit_area_stands_for(area, fields[FIT_LEFT]);
+        r = fit_area_stands_for(area, fields[FIT_RIGHT]);
+        common = alike(l, r);
+        if (fields[FIT_KIND] != (uint32_t)(common ? FIT_COMMON : FIT_OPEN_PLACE))
+            return differs("the kind of entry", i);
+        if (fields[FIT_SYMBOL] != (common ? fit_area_symbol(area, l) : 0) || fields[FIT_COUNT] != (common ? fit_area_count(area, l) : 0))
+            return differs("symbol or count of entry", i);
+    }
+    return 1;
+}
+
 /* The bytes that the readers of terms give are those that fit_write gives, and those the area was opened from. */
 static int book_agrees(void)
 {
@@ -421,11 +457,11 @@ static int bindings_agree(void)
 /* Of each term, another with the same value, one for all that have it; and the lowest of them, the name of the value. */
 static uint32_t class_of[FIT_MAX_TERMS], name_of[FIT_MAX_TERMS];
 
-/* Whether two terms have one symbol over arguments of the same classes, which are known. */
+/* Whether two terms are alike and have arguments of the same classes, which are known. */
 static int same_value(uint32_t t, uint32_t other)
 {
     uint32_t k;
-    if (fit_area_is_variable(area, other) || fit_area_symbol(area, t) != fit_area_symbol(area, other))
+    if (!alike(t, other))
         return 0;
     for (k = 0; k < fit_area_count(area, t); k++)
         if (class_of[fit_area_argument(area, t, k)] != class_of[fit_area_argument(area, other, k)])
@@ -533,10 +569,22 @@ static int report_agrees(void)
     return same_bytes(&read, &given) ? 1 : differs("the report, of bytes", length);
 }
 
+/* The counts that a symbol was met with: one bit for each. */
+static uint32_t counts_met[FIT_MAX_SYMBOL + 1];
+
+/* Whether the symbol was met with another count, before it is met with this one. */
+static int meets_another(uint32_t symbol, uint32_t count)
+{
+    uint32_t before = counts_met[symbol], own = UINT32_C(1) << count;
+    counts_met[symbol] |= own;
+    return (before & ~own) != 0;
+}
+
 /* The kinds of the terms and bindings of an area that agreed. */
 static void count_terms(void)
 {
     uint32_t t, last, steps;
+    memset(counts_met, 0, sizeof counts_met);
     for (t = 0; t < term_count; t++) {
         for (last = t, steps = 0; bound_to[last] != FIT_UNBOUND; steps++)
             last = bound_to[last];
@@ -544,6 +592,7 @@ static void count_terms(void)
         count_if(SYMBOL_ABOVE_127, terms[t].symbol_plus_1 > 128);
         count_if(HIGHEST_SYMBOL, terms[t].symbol_plus_1 == FIT_MAX_SYMBOL + 1);
         count_if(MOST_ARGUMENTS, terms[t].count == FIT_MAX_ARGUMENTS);
+        count_if(OTHER_COUNT, !is_variable(t) && meets_another(terms[t].symbol_plus_1 - 1, terms[t].count));
         count_if(FREE, is_variable(t) && steps == 0);
         count_if(BOUND, steps > 0);
         count_if(BOUND_TO_0, bound_to[t] == 0);
@@ -557,12 +606,20 @@ static void count_terms(void)
 static void count_entries(void)
 {
     static uint32_t in_class[FIT_MAX_CAPACITY];
-    uint32_t fields[FIT_FIELDS], i, k;
+    uint32_t fields[FIT_FIELDS], i, k, l, r;
+    int unlike;
     memset(in_class, 0, sizeof in_class);
+    memset(counts_met, 0, sizeof counts_met);
     for (i = 0; i < fit_area_entries(area); i++) {
         fit_area_entry(area, i, fields);
+        l = fit_area_stands_for(area, fields[FIT_LEFT]);
+        r = fit_area_stands_for(area, fields[FIT_RIGHT]);
+        unlike = fields[FIT_KIND] == FIT_OPEN_PLACE && same_symbol(l, r) && !alike(l, r);
         count_if(OPEN, fields[FIT_KIND] == FIT_OPEN_PLACE);
+        count_if(UNLIKE_COUNTS, unlike);
+        count_if(UNLIKE_BY_CHOICE, unlike && (l != fields[FIT_LEFT] || r != fields[FIT_RIGHT]));
         count_if(COMMON, fields[FIT_KIND] == FIT_COMMON);
+        count_if(COMMON_OTHER_COUNT, fields[FIT_KIND] == FIT_COMMON && meets_another(fields[FIT_SYMBOL], fields[FIT_COUNT]));
         count_if(COMMON_MOST_ARGUMENTS, fields[FIT_COUNT] == FIT_MAX_ARGUMENTS);
         count_if(OWN_SAME_AS, fields[FIT_SAME_AS] == i);
         count_if(LOWER_SAME_AS, fields[FIT_SAME_AS] < i);
@@ -601,7 +658,7 @@ static void count_area(void)
 static int area_agrees(uint64_t number, uint64_t seed)
 {
     state = seed;
-    if (!make_area(number) || !header_agrees() || !entries_agree() || !book_agrees() || !bindings_agree() || !report_agrees())
+    if (!make_area(number) || !header_agrees() || !entries_agree() || !book_agrees() || !bindings_agree() || !kinds_agree() || !report_agrees())
         return 0;
     count_area();
     return 1;

@@ -1,16 +1,20 @@
 //! Compares reading an entry and writing the book back, through the C interface, with the second implementation: on sound
 //! areas, and on areas that were damaged, cut or lengthened. Every case is made from its own seed, which is printed where the
-//! two differ. It counts what is wrong with the areas, and fails where some fault never occurs.
+//! two differ. It counts what is wrong with the areas, and fails where some fault never occurs. Areas of an older library (older.rs) must
+//! be sound.
 
 mod bases;
 mod damage;
+#[macro_use]
+mod kinds;
 #[cfg_attr(stand_in, path = "stand_in.rs")]
 mod fit;
+mod older;
 mod reference;
 mod samples;
 
 use bases::Base;
-use reference::{faults, first_seed, perform, times, Answer, Call, Fault, Faults, Limits, Random, OFFICE};
+use reference::{decode, faults, first_seed, has_two_arities, perform, read, times, Answer, Call, Fault, Faults, Limits, Random, OFFICE};
 use samples::Tally;
 
 const CASES: u64 = 200_000;
@@ -105,20 +109,48 @@ fn write_agrees(random: &mut Random, base: &Base, area: &[u8], copy: &mut [u8]) 
     Answer::new(refusal, &[written]) == expected && ours == theirs && area == copy
 }
 
-/// How often each fault occurred, and what else the areas were.
+kinds! {
+    Unlike, "a sound area with a hole of one symbol and unlike arities";
+    UnlikeNone, "of these, one arity 0";
+    UnlikeMost, "of these, the arities 7 and 8";
+    UnlikeBound, "of these, a side a bound variable";
+    SecondArity, "a sound area in which damage gave a symbol its second arity";
+}
+
+/// How often each fault occurred, also as the only one, and what else the areas were.
 #[derive(Default)]
 struct Census {
     sound: u64,
     faults: [u64; Fault::ALL.len()],
+    only: [u64; Fault::ALL.len()],
     points: [u64; 11],
     alone: [u64; 11],
+    kinds: [u64; KINDS.len()],
 }
 
 impl Census {
+    fn note(&mut self, kind: Kind, occurs: bool) {
+        self.kinds[kind as usize] += u64::from(occurs);
+    }
+
+    /// A sound area that was made from a base.
+    fn sound(&mut self, base: &Base, area: &[u8]) {
+        let state = read(OFFICE, area);
+        let unlike = || state.entries.iter().filter_map(|entry| Some((entry, state.unlike_arities(entry)?)));
+        let is_bound = |t: u32| state.bindings[t as usize].is_some();
+        self.note(Kind::Unlike, unlike().next().is_some());
+        self.note(Kind::UnlikeNone, unlike().any(|(_, arities)| arities.contains(&0)));
+        self.note(Kind::UnlikeMost, unlike().any(|(_, arities)| arities == [7, 8] || arities == [8, 7]));
+        self.note(Kind::UnlikeBound, unlike().any(|(entry, _)| is_bound(entry.left) || is_bound(entry.right)));
+        let had_one = || decode(OFFICE, &base.book).is_ok_and(|terms| !has_two_arities(&terms));
+        self.note(Kind::SecondArity, has_two_arities(&state.terms) && had_one());
+    }
+
     fn count(&mut self, found: Faults) {
         self.sound += u64::from(found.is_empty());
-        for (number, (fault, _, _)) in self.faults.iter_mut().zip(Fault::ALL) {
-            *number += u64::from(found.has(fault));
+        for (i, (fault, _, _)) in Fault::ALL.into_iter().enumerate() {
+            self.faults[i] += u64::from(found.has(fault));
+            self.only[i] += u64::from(found.is_only(fault));
         }
         let points = found.points();
         for &point in &points {
@@ -133,15 +165,16 @@ impl Census {
         println!("{} sound; {} unsound for exactly one point", self.sound, self.alone.iter().sum::<u64>());
         for point in 1..=10 {
             println!("point {point}: {}, as the only one {}", self.points[point], self.alone[point]);
-            for (number, (_, _, what)) in self.faults.iter().zip(Fault::ALL).filter(|(_, fault)| fault.1 as usize == point) {
-                println!("    {what}: {number}");
+            for (i, (_, _, what)) in Fault::ALL.iter().enumerate().filter(|(_, fault)| fault.1 as usize == point) {
+                println!("    {what}: {}, as the only one {}", self.faults[i], self.only[i]);
             }
         }
+        kinds::print(KINDS, &self.kinds);
     }
 
-    /// Whether every fault occurred, and every point as the only one.
+    /// Whether every fault and every point occurred as the only one.
     fn is_complete(&self) -> bool {
-        self.sound > 0 && self.faults.iter().all(|&number| number > 0) && self.alone[1..].iter().all(|&number| number > 0)
+        self.sound > 0 && self.only.iter().chain(&self.alone[1..]).all(|&number| number > 0)
     }
 }
 
@@ -160,7 +193,11 @@ fn run_case(seed: u64, small: &[Base], large: &[Base], area: &mut Vec<u8>, copy:
     let base = &pool[random.place(pool.len())];
     make_area(&mut random, base, area);
     copy.clone_from(area);
-    outcome.census.count(faults(OFFICE, area));
+    let found = faults(OFFICE, area);
+    outcome.census.count(found);
+    if found.is_empty() {
+        outcome.census.sound(base, area);
+    }
     if !entry_agrees(&mut random, area, copy) {
         println!("reading an entry differs: seed {seed:#x}");
         outcome.reading += 1;
@@ -191,12 +228,15 @@ fn main() {
     samples::run(OFFICE, perform, &mut tally);
     samples::run(SMALL_LIMITS, perform, &mut tally);
     samples::layout_example(OFFICE, perform, &mut tally);
+    older::run(&mut tally);
     let first = first_seed(SEED);
     let Outcome { census, reading, writing } = run_cases(first);
     println!("{} areas from seed {first:#x}", CASES * times());
     census.print();
     println!("reading an entry: {reading} differ; writing the book: {writing} differ");
-    tally.test("every fault occurs, and every point as the only one that fails", census.is_complete());
+    let missing = kinds::missing(KINDS, &census.kinds);
+    tally.test("every fault occurs as the only one, and every point as the only one that fails", census.is_complete());
+    tally.test(&format!("every kind of area occurs, but: {missing:?}"), missing.is_empty());
     tally.test("reading an entry agrees", reading == 0);
     tally.test("writing the book agrees", writing == 0);
     tally.finish()

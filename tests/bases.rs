@@ -3,7 +3,7 @@
 // Each program uses a part.
 #![allow(dead_code)]
 
-use crate::reference::{book_over, encode, perform, random_book, Call, Random, Term, OFFICE};
+use crate::reference::{book_over, encode, perform, random_book, signature, Call, Random, Term, OFFICE};
 
 /// An area of the length that it needs, and how it came about: a book opened, then the accepted steps.
 pub struct Base {
@@ -61,12 +61,9 @@ pub fn random_step(random: &mut Random, terms: &[Term]) -> Call<'static> {
 pub fn narrow_book(random: &mut Random, count: usize) -> Vec<Term> {
     let arities = random.pick(&[1, 2, 3, 3, 4, 9]);
     let any = random.below(4096) as u32;
-    let mut signature = vec![(2, 0)];
-    for symbol in [0, any, 4095] {
-        if random.below(2) == 0 {
-            signature.push((symbol, random.below(arities) as u32));
-        }
-    }
+    let symbols: Vec<u32> = [0, any, 4095].into_iter().filter(|_| random.below(2) == 0).collect();
+    let mut signature = signature(random, &symbols, arities);
+    signature.push((2, 0));
     book_over(random, &signature, count)
 }
 
@@ -174,6 +171,11 @@ fn pairing_book(random: &mut Random, count: usize) -> Vec<Term> {
 /// A book over one symbol with eight arguments: most pairs are common, and reports are long.
 fn wide_book(random: &mut Random, count: usize) -> Vec<Term> {
     book_over(random, &[(4095, 8)], count)
+}
+
+/// A book over two symbols with several arities each: pairs of one symbol with unlike arities, under roots that are common.
+fn uneven_book(random: &mut Random, count: usize) -> Vec<Term> {
+    book_over(random, &[(4095, 0), (4095, 7), (4095, 8), (1, 1), (1, 2)], count)
 }
 
 /// A table nearly full of lines of terms over eight arguments, then so many lines of one entry each, and bindings that join classes.
@@ -330,7 +332,7 @@ pub fn large(random: &mut Random) -> Vec<Base> {
         bases.push(dense(random, capacity, singles, bindings));
     }
     for (count, capacity) in [(1024, 2048), (1024, 1024), (1024, 60), (200, 2048), (60, 700)] {
-        for book in [narrow_book, pairing_book, random_book, wide_book] {
+        for book in [narrow_book, pairing_book, random_book, wide_book, uneven_book] {
             let terms = book(random, count);
             bases.push(filled(random, &terms, capacity));
         }

@@ -12,8 +12,9 @@ mod reference;
 mod timing;
 
 use bases::Base;
-use reference::{copy_book, perform, restore_book, store_book, stored_bytes, Answer, Call, CopyBook, Perform, Random, Restore, Store};
-use reference::{Term, OFFICE};
+use reference::{book_over, copy_book, encode, perform, restore_book, store_book, stored_bytes, Answer, Call, CopyBook, Perform, Random};
+use reference::{Restore, Store, OFFICE};
+use std::collections::BTreeMap;
 use std::hint::black_box;
 
 const RUNS: usize = 5;
@@ -147,21 +148,18 @@ fn compare_lean_books() {
     }
 }
 
-/// One count for each symbol: a table of symbols against a look back, on a book of symbols that are all different.
-fn show_look_back() {
-    let symbols: Vec<Term> = (0..1024).map(|symbol| Term::Application { symbol, arguments: vec![] }).collect();
-    let book = reference::encode(&symbols);
-    let start = vec![0; fit::area_length(1)];
-    let ours = best(&|area, _| Answer::new(fit::open(1, &book, area), &[]), &start, &mut []);
-    let table = best(&|area, _| Answer::new(lean::open::<false>(1, &book, area), &[]), &start, &mut []);
-    let look_back = best(&|area, _| Answer::new(lean::open::<true>(1, &book, area), &[]), &start, &mut []);
-    println!("opening 1,024 different symbols: proved {ours:.1} µs, Rust with a table {table:.1} µs, with a look back {look_back:.1} µs");
+/// A random book of 1,024 terms in which each symbol has one arity, so that libraries from before interface 3 take it too.
+fn random_book() -> Vec<u8> {
+    let random = &mut Random(1024);
+    let symbols = 1 + random.below(40);
+    let signature: BTreeMap<u32, u32> = (0..symbols).map(|_| (random.below(4096) as u32, random.below(9) as u32)).collect();
+    encode(&book_over(random, &signature.into_iter().collect::<Vec<(u32, u32)>>(), 1024))
 }
 
 fn main() {
     compare_lean();
     compare_lean_books();
-    let book = reference::encode(&reference::random_book(&mut Random(1024), 1024));
+    let book = random_book();
     println!("a random book of 1,024 terms, {} bytes", book.len());
     for capacity in [1u32, 1024] {
         let start = vec![0; fit::area_length(capacity)];
@@ -174,5 +172,4 @@ fn main() {
     for capacity in [1024, 2048] {
         table_rows(&bases::measured(&mut Random(1024), 1024, capacity));
     }
-    show_look_back();
 }

@@ -1,6 +1,7 @@
-/* The C interface as a C program meets it, through include/fit.h: the samples of docs/SPEC.md, a book of no bytes, every refusal of every
-   call, and each number of the header against the library or the definitions. What is lent lies between guard bytes. An accepted call may
-   write its part alone, a refused one no byte, and every number that a refused call answers is 0. Prints how many tests passed. */
+/* The C interface as a C program meets it, through include/fit.h: the samples of docs/SPEC.md, a book of no bytes, books in which a symbol
+   has two counts, every refusal of every call, and each number of the header against the library or the definitions. What is lent lies
+   between guard bytes. An accepted call may write its part alone, a refused one no byte, and every number that a refused call answers is 0.
+   Prints how many tests passed. */
 #include "fit.h"
 
 #include "definitions.h" /* made by tests/definitions */
@@ -61,13 +62,18 @@ struct book {
 #define BYTES(...) {(const uint8_t[]){__VA_ARGS__}, sizeof((const uint8_t[]){__VA_ARGS__})}
 #define NO_BYTES {(const uint8_t *)"\xEE", 0} /* before a byte that is no book */
 
-/* Makes a call: a and b are its two numbers, or the capacity. */
-static uint32_t make(enum name name, const struct book *book, uint32_t a, uint32_t b, size_t area_length, size_t out_length)
+/* How often a call has given 6, which none gives any more. */
+static int two_counts_given;
+
+static uint32_t noted(uint32_t refusal)
+{
+    two_counts_given += refusal == FIT_TWO_COUNTS;
+    return refusal;
+}
+
+static uint32_t call(enum name name, const struct book *book, uint32_t a, uint32_t b, size_t area_length, size_t out_length)
 {
     uint8_t *lent_area = bytes_of(&area), *lent_out = bytes_of(&out);
-    memcpy(area.before, area.store, sizeof area.store);
-    memcpy(out.before, out.store, sizeof out.store);
-    memset(guarded, FILLING, sizeof guarded);
     switch (name) {
     case OPEN:
         return fit_open(a, book->bytes, book->length, lent_area, area_length);
@@ -84,6 +90,15 @@ static uint32_t make(enum name name, const struct book *book, uint32_t a, uint32
     default:
         return fit_copy_book(book->bytes, book->length, lent_out, out_length, &numbers[0]);
     }
+}
+
+/* Makes a call: a and b are its two numbers, or the capacity. */
+static uint32_t make(enum name name, const struct book *book, uint32_t a, uint32_t b, size_t area_length, size_t out_length)
+{
+    memcpy(area.before, area.store, sizeof area.store);
+    memcpy(out.before, out.store, sizeof out.store);
+    memset(guarded, FILLING, sizeof guarded);
+    return noted(call(name, book, a, b, area_length, out_length));
 }
 
 /* Refused with this number, zeros for all else, and no byte changed. */
@@ -137,7 +152,16 @@ static int puts_bytes(enum name name, const struct book *book, const struct book
 #define BOOK_A BYTES(6, 0, 4, 0, 2, 1, 0, 2, 1, 1, 3, 2, 2, 0, 3, 2, 3, 1)
 #define BOOK_B BYTES(5, 0, 0, 4, 0, 2, 1, 1, 2, 1, 2)
 
-static const struct book book_a = BOOK_A, book_b = BOOK_B, no_terms = BYTES(0), no_bytes = NO_BYTES;
+/* The symbol 0, and over it once more: the example that 6 had. */
+#define TWO_COUNTS BYTES(2, 1, 0, 1, 1, 0)
+/* a, b, f(a), f(a, b), g(f(a)), g(f(a, b)): docs/C-API.md has it. */
+#define BOOK_F BYTES(6, 1, 0, 2, 0, 3, 1, 0, 3, 2, 0, 1, 4, 1, 2, 4, 1, 3)
+/* a, b, x, f(a), f(a, b), f(b, a) */
+#define CHOICE_F BYTES(6, 1, 0, 2, 0, 0, 3, 1, 0, 3, 2, 0, 1, 3, 2, 1, 0)
+/* a, b, f(a), f(b), f(a, b), f(b, a) */
+#define BOTH_F BYTES(6, 1, 0, 2, 0, 3, 1, 0, 3, 1, 1, 3, 2, 0, 1, 3, 2, 1, 0)
+
+static const struct book book_a = BOOK_A, book_b = BOOK_B, two_counts = TWO_COUNTS, no_terms = BYTES(0), no_bytes = NO_BYTES;
 
 /* What is written for a book that opens: its bytes, but 00 where it has none. */
 static const struct book *as_written(const struct book *book)
@@ -154,7 +178,7 @@ struct sample {
     struct step step[3];
     struct book report;
     uint32_t entries;
-    uint32_t fields[3][FIT_FIELDS];
+    uint32_t fields[5][FIT_FIELDS];
 };
 
 static const struct sample samples[] = {
@@ -174,6 +198,32 @@ static const struct sample samples[] = {
     {"B5", BOOK_B, CAPACITY, 2, {{BIND, 0, 1, FIT_OK, {0, 0}}, {BIND, 1, 0, FIT_OCCURS, {0}}}, BYTES(0, 0), 0, {{0}}},
     {"Z1", BYTES(0), CAPACITY, 0, {{OPEN, 0, 0, FIT_OK, {0}}}, BYTES(0, 0), 0, {{0}}},
     {"Z1 of no bytes", NO_BYTES, CAPACITY, 0, {{OPEN, 0, 0, FIT_OK, {0}}}, BYTES(0, 0), 0, {{0}}},
+    /* one symbol with unlike counts is an open place: at the root */
+    {"6's example", TWO_COUNTS, CAPACITY, 1, {{ADD, 0, 1, FIT_OK, {0}}}, BYTES(1, 0, 1, 0, 1, 0), 1, {{0, 1}}},
+    {"6's example, sides exchanged", TWO_COUNTS, 1, 1, {{ADD, 1, 0, FIT_OK, {0}}}, BYTES(1, 0, 1, 1, 0, 0), 1, {{1, 0}}},
+    /* below a common symbol, of which the open place is the argument */
+    {"F1", BOOK_F, CAPACITY, 1, {{ADD, 4, 5, FIT_OK, {0}}}, BYTES(1, 0, 2, 4, 5, 4, 1, 1, 2, 3, 0),
+     2, {{4, 5, 1, 3, 1, 1}, {2, 3, [FIT_SAME_AS] = 1}}},
+    /* no entry is needed for arguments below it */
+    {"F1 in two entries", BOOK_F, 2, 2, {{ADD, 4, 5, FIT_OK, {0}}, {ADD, 2, 3, FIT_OK, {1}}}, BYTES(2, 0, 1, 2, 4, 5, 4, 1, 1, 2, 3, 0),
+     2, {{4, 5, 1, 3, 1, 1}, {2, 3, [FIT_SAME_AS] = 1}}},
+    /* x bound to f(a, b) stays open against f(a), and turns against f(b, a) */
+    {"F2", CHOICE_F, CAPACITY, 3, {{ADD, 2, 3, FIT_OK, {0}}, {ADD, 2, 5, FIT_OK, {1}}, {BIND, 2, 4, FIT_OK, {1, 2}}},
+     BYTES(2, 0, 1, 4, 2, 3, 0, 2, 5, 3, 2, 2, 3, 0, 1, 0, 1, 0, 0),
+     4, {{2, 3}, {2, 5, 1, 2, 2, 2, 3, [FIT_SAME_AS] = 1}, {0, 1, [FIT_SAME_AS] = 2}, {1, 0, [FIT_SAME_AS] = 3}}},
+    /* x bound to f(a) turns against f(a) itself, and stays open against f(b, a) */
+    {"F3", CHOICE_F, CAPACITY, 3, {{ADD, 3, 2, FIT_OK, {0}}, {ADD, 5, 2, FIT_OK, {1}}, {BIND, 2, 3, FIT_OK, {1, 1}}},
+     BYTES(2, 0, 1, 3, 2, 2, 3, 1, 2, 5, 2, 0, 0, 0, 1, 0),
+     3, {{3, 2, 1, 2, 1, 2}, {5, 2, [FIT_SAME_AS] = 1}, {0, 0, 1, 0, [FIT_SAME_AS] = 2}}},
+    /* one symbol is common with one argument, common with two, and open between these */
+    {"F4", BOTH_F, CAPACITY, 3, {{ADD, 2, 3, FIT_OK, {0}}, {ADD, 4, 5, FIT_OK, {2}}, {ADD, 2, 4, FIT_OK, {4}}},
+     BYTES(3, 0, 1, 2, 5, 2, 3, 3, 1, 3, 4, 5, 3, 2, 3, 4, 2, 4, 0, 0, 1, 0, 1, 0, 0),
+     5, {{2, 3, 1, 2, 1, 1}, {0, 1, [FIT_SAME_AS] = 1}, {4, 5, 1, 2, 2, 1, 3, [FIT_SAME_AS] = 2}, {1, 0, [FIT_SAME_AS] = 3},
+         {2, 4, [FIT_SAME_AS] = 4}}},
+    /* a, f(a), f(a, a): all arguments are term 0, and the values of f(a) and f(a, a) are two */
+    {"F5", BYTES(3, 1, 0, 2, 1, 0, 2, 2, 0, 0), CAPACITY, 3, {{ADD, 1, 0, FIT_OK, {0}}, {ADD, 2, 0, FIT_OK, {1}}, {ADD, 1, 2, FIT_OK, {2}}},
+     BYTES(3, 0, 1, 2, 3, 1, 0, 0, 2, 0, 0, 1, 2, 0),
+     3, {{1, 0}, {2, 0, [FIT_SAME_AS] = 1}, {1, 2, [FIT_SAME_AS] = 2}}},
 };
 
 static int holds_sample(const struct sample *sample)
@@ -193,7 +243,7 @@ static int holds_sample(const struct sample *sample)
         && puts_bytes(WRITE, NULL, as_written(&sample->book), needed);
 }
 
-/* Books that are refused, by opening and by copying: numbers 1 to 6, with each of the ranges of 4. */
+/* Books that are refused, by opening and by copying: numbers 1 to 5, with each of the ranges of 4. */
 static const struct {
     struct book book;
     uint32_t refusal;
@@ -210,7 +260,13 @@ static const struct {
     {BYTES(0x01, 0x81, 0x20, 0x00), FIT_OUT_OF_RANGE}, /* symbol 4,096 */
     {BYTES(0x01, 0x01, 0x09), FIT_OUT_OF_RANGE},       /* nine arguments */
     {BYTES(0x01, 0x01, 0x01, 0x00), FIT_NOT_LOWER},
-    {BYTES(0x02, 0x01, 0x00, 0x01, 0x01, 0x00), FIT_TWO_COUNTS},
+    /* a second count of symbol 0 is no fault: what is behind it decides, or its range */
+    {BYTES(0x02, 0x01, 0x00, 0x01, 0x01), FIT_CUT},
+    {BYTES(0x03, 0x01, 0x00, 0x01, 0x01, 0x00), FIT_CUT},
+    {BYTES(0x02, 0x01, 0x00, 0x01, 0x01, 0x80, 0x00), FIT_BAD_NUMBER},
+    {BYTES(0x02, 0x01, 0x00, 0x01, 0x01, 0x00, 0x00), FIT_LEFT_OVER},
+    {BYTES(0x02, 0x01, 0x00, 0x01, 0x09), FIT_OUT_OF_RANGE},
+    {BYTES(0x02, 0x01, 0x00, 0x01, 0x01, 0x01), FIT_NOT_LOWER},
 };
 
 /* The other refusals of opening. */
@@ -299,6 +355,7 @@ static void test_books(void)
     test("copied", 0, puts_bytes(COPY, &book_a, &book_a, 0));
     test("copied", 1, puts_bytes(COPY, &no_terms, &no_terms, 0));
     test("copied", 2, puts_bytes(COPY, &no_bytes, &no_terms, 0));
+    test("copied", 3, puts_bytes(COPY, &two_counts, &two_counts, 0));
     test("no bytes opened", 1, opens_as_no_terms(1));
     test("no bytes opened", CAPACITY, opens_as_no_terms(CAPACITY));
 }
@@ -341,6 +398,35 @@ static void test_unsound(void)
             bytes_of(&area)[spoiled[i]] ^= 0x80;
         }
         test(names[name], 7, holds);
+    }
+}
+
+/* Entry 0 with another kind, count and second argument than its sides ask, in books in which a symbol has two counts. */
+static const struct {
+    struct book book;
+    struct step line;
+    uint8_t kind, count, second_argument;
+} wrong_entries[] = {
+    {TWO_COUNTS, {ADD, 0, 1, FIT_OK, {0}}, FIT_COMMON, 0, 0}, /* common, with the count of its left side */
+    {TWO_COUNTS, {ADD, 0, 1, FIT_OK, {0}}, FIT_COMMON, 1, 0}, /* of its right side */
+    {BOTH_F, {ADD, 2, 3, FIT_OK, {0}}, FIT_COMMON, 2, 1},     /* two arguments, where each side has one */
+    {BOTH_F, {ADD, 4, 5, FIT_OK, {0}}, FIT_COMMON, 1, 0},     /* one, where each has two */
+};
+
+/* 7 from every call on such an area, and from none before. */
+static void test_wrong_entries(void)
+{
+    uint8_t *entry = bytes_of(&area) + 46096; /* docs/LAYOUT.md */
+    size_t i, needed = fit_area_length(4);
+    int name, holds;
+    for (i = 0; i < COUNT(wrong_entries); i++) {
+        holds = opens(&wrong_entries[i].book, 4) && takes(&wrong_entries[i].line, 4) && make(ENTRY, NULL, 0, 0, needed, 0) == FIT_OK;
+        entry[4 * FIT_KIND] = wrong_entries[i].kind;
+        entry[4 * FIT_COUNT] = wrong_entries[i].count;
+        entry[4 * (FIT_ARGUMENT + 1)] = wrong_entries[i].second_argument;
+        for (name = ADD; name <= WRITE; name++)
+            holds = holds && refuses(FIT_NOT_SOUND, (enum name)name, NULL, 0, 0, needed, MOST);
+        test("wrong entry", i, holds);
     }
 }
 
@@ -425,7 +511,8 @@ static uint32_t store(const struct book *book, size_t out_length, size_t list_le
     fill(&out, &no_bytes);
     fill(&list, &no_bytes);
     memset(guarded, FILLING, sizeof guarded);
-    return fit_store_book(bytes_of(&given), book->length, bytes_of(&out), out_length, bytes_of(&list), list_length, &numbers[0], &numbers[1]);
+    return noted(fit_store_book(bytes_of(&given), book->length, bytes_of(&out), out_length, bytes_of(&list), list_length, &numbers[0],
+                                &numbers[1]));
 }
 
 static uint32_t restore(const struct book *book, const struct book *listed, size_t out_length)
@@ -434,7 +521,7 @@ static uint32_t restore(const struct book *book, const struct book *listed, size
     fill(&list, listed);
     fill(&out, &no_bytes);
     memset(guarded, FILLING, sizeof guarded);
-    return fit_restore_book(bytes_of(&given), book->length, bytes_of(&list), listed->length, bytes_of(&out), out_length, &numbers[0]);
+    return noted(fit_restore_book(bytes_of(&given), book->length, bytes_of(&list), listed->length, bytes_of(&out), out_length, &numbers[0]));
 }
 
 /* Refused with this number, zeros for all else, and no byte changed. */
@@ -500,6 +587,8 @@ static const struct {
     {BYTES(2, 1, 0, 2, 1, 0), BYTES(2, 1, 0, 2, 1, 0), BYTES(0, 1)}, /* no variables */
     {BYTES(0), BYTES(0), NO_BYTES},                                  /* no terms: a list of no bytes, in an output of length 0 */
     {NO_BYTES, BYTES(0), NO_BYTES},                                  /* no bytes: the same */
+    {TWO_COUNTS, TWO_COUNTS, BYTES(0, 1)},                           /* a symbol with two counts */
+    {BYTES(3, 1, 0, 0, 1, 1, 1), BYTES(3, 0, 1, 0, 1, 1, 0), BYTES(1, 0, 2)}, /* the same, the second over a variable that moves */
 };
 
 /* Lists of the book of a variable, a constant, and a symbol over that constant, which are refused, with an output of any length. */
@@ -655,6 +744,7 @@ static void test_archive(void)
     test("list of no terms", 1, restores_no_terms(&no_bytes));
     test("fronts of a book", 0, refuses_fronts(&book_a));
     test("fronts of a book", 1, refuses_fronts(&book_b));
+    test("fronts of a book", 2, refuses_fronts(&two_counts));
     for (i = 0; i < COUNT(accepted_lists); i++)
         test("accepted list", i, restores(&three_terms, &accepted_lists[i].listed, &accepted_lists[i].restored, 7)
             && restores(&three_terms, &accepted_lists[i].listed, &accepted_lists[i].restored, MOST)
@@ -712,7 +802,7 @@ static void test_texts(void)
         "bytes after the last term of the book, or after the list",
         "a number of terms, a symbol, a count or a capacity out of range",
         "an argument that is not lower than its term",
-        "a symbol with two counts",
+        "a symbol with two counts, refused before interface 3 only",
         "an area that is too short or not sound",
         "a number that names no term or entry",
         "a variable that is bound already, or a symbol in its place",
@@ -737,11 +827,13 @@ int main(void)
     test_books();
     test_calls();
     test_unsound();
+    test_wrong_entries();
     test_limits();
     test_archive();
     test_definitions();
     test_fields();
     test_texts();
+    test("FIT_TWO_COUNTS", 0, two_counts_given == 0);
     printf("interface %d\n", FIT_INTERFACE);
     printf("%d passed, %d failed\n", passed, failed);
     return failed > 0;

@@ -16,9 +16,9 @@ mod reference;
 mod samples;
 
 use bases::Base;
-use census::{Census, Kind, Sight, EVERY_LENGTH};
+use census::{unlike_holes, Census, Kind, Sight, EVERY_LENGTH};
 use lent::Lent;
-use reference::{bytes_of, decode, encode, first_seed, perform, times, Answer, Call, Random, Term, OFFICE};
+use reference::{bytes_of, decode, encode, first_seed, perform, read, times, Answer, Call, Random, Term, OFFICE};
 use samples::Tally;
 use std::thread;
 
@@ -257,6 +257,9 @@ impl List {
         if answer.refusal != 7 {
             census.call(call, before, self.twins.sight(), &answer);
         }
+        if answer.refusal == 0 {
+            self.note_unlike(call, before.entries, &answer, census);
+        }
         match call {
             Call::Entry { .. } => self.other_calls = true,
             _ if answer.refusal == 0 => self.accepted.push(call),
@@ -265,12 +268,26 @@ impl List {
         Ok(())
     }
 
+    /// What an accepted call on a table of so many entries has to do with unlike arities.
+    fn note_unlike(&self, call: Call, old: u32, answer: &Answer, census: &mut Census) {
+        let state = read(OFFICE, &self.twins.theirs);
+        let is_unlike = |i: u32| unlike_holes(&state).iter().any(|&(own, _)| own == i);
+        match call {
+            Call::Entry { i } => census.note(Kind::UnlikeRead, is_unlike(i)),
+            Call::Report => census.note(Kind::UnlikeReported, state.lines.iter().any(|&line| is_unlike(line))),
+            _ => census.unlike(call, old, answer, &state),
+        }
+    }
+
     /// Makes a report or writes the book, which takes so many bytes, into an output of this length.
     fn put(&mut self, random: &mut Random, call: Call, needed: usize, length: usize, census: &mut Census) -> Result<(), String> {
         let (answer, _) = self.twins.call(call, length, random.next() as u8)?;
         census.answer(call, self.damaged, &answer);
         if answer.refusal != 7 {
             census.output(call, needed, length);
+        }
+        if matches!(call, Call::Report) && answer.refusal == 0 {
+            self.note_unlike(call, 0, &answer, census);
         }
         if matches!(call, Call::Write) && self.book.is_empty() && !self.damaged {
             census.note(Kind::NoBytesWritten, answer.refusal == 0);
@@ -330,6 +347,7 @@ impl List {
         census.note(Kind::DoneOverFull, sight.entries == sight.capacity);
         census.note(Kind::DoneOverMostEntries, sight.entries == OFFICE.capacity);
         census.note(Kind::DoneOverFullBook, sight.terms == 1024);
+        census.note(Kind::DoneOverUnlike, !unlike_holes(&read(OFFICE, &self.twins.theirs)).is_empty());
     }
 }
 

@@ -1,11 +1,11 @@
 //! Counts what the lists of calls were made of, so that a comparison fails where some kind of case never occurred.
 
 use crate::kinds;
-use crate::reference::{Answer, Call, OFFICE};
+use crate::reference::{decode, has_two_arities, Answer, Call, State, OFFICE};
 
 /// The six calls, and the answers that docs/SPEC.md gives each: 0 and its refusals.
 const CALLS: [(&str, &[usize]); 6] = [
-    ("opening", &[0, 1, 2, 3, 4, 5, 6, 7]),
+    ("opening", &[0, 1, 2, 3, 4, 5, 7]),
     ("adding a line", &[0, 7, 8, 11, 12]),
     ("fixing a choice", &[0, 7, 8, 9, 10, 11]),
     ("reading an entry", &[0, 7, 8]),
@@ -39,6 +39,15 @@ kinds! {
     LargeBook, "a book of 513 to 1,023 terms opened";
     FullBook, "a book of 1,024 terms opened";
     FullBookMostEntries, "a book of 1,024 terms at capacity 2,048";
+    TwoArities, "a book with a symbol of two arities opened";
+    UnlikeLine, "a line whose entry is a hole of one symbol with unlike arities";
+    UnlikeArgument, "a step after which such a hole is an argument";
+    UnlikeNone, "a step after which such a hole has an arity 0";
+    UnlikeMost, "a step after which such a hole has the arities 7 and 8";
+    UnlikeChoice, "a choice that gives an entry one symbol on both sides, with unlike arities: it stays a hole";
+    UnlikeChoiceTurns, "of these, one that turns other entries";
+    UnlikeRead, "such a hole read";
+    UnlikeReported, "a report where such a hole is a line";
     LeftOut, "only the first number of a step out of range";
     RightOut, "only the second number of a step out of range";
     BothOut, "both numbers of a step out of range";
@@ -81,7 +90,25 @@ kinds! {
     DoneOverFull, "of these, with a full table";
     DoneOverMostEntries, "of these, with 2,048 entries";
     DoneOverFullBook, "of these, with a book of 1,024 terms";
+    DoneOverUnlike, "of these, with such a hole of one symbol and unlike arities";
     DoneOverShortOutput, "of these, with both reports refused with 13";
+}
+
+/// The entries whose sides stand for terms of one symbol with unlike arities, and these arities.
+pub fn unlike_holes(state: &State) -> Vec<(u32, [usize; 2])> {
+    let unlike = |(i, entry)| Some((i, state.unlike_arities(entry)?));
+    (0..).zip(&state.entries).filter_map(unlike).collect()
+}
+
+/// Whether a term stood for v before v was bound.
+fn stood_for(state: &State, mut t: u32, v: u32) -> bool {
+    while t != v {
+        match state.bindings[t as usize] {
+            Some(next) => t = next,
+            None => return false,
+        }
+    }
+    true
 }
 
 /// The header of an area, and whether more bytes are lent than it needs.
@@ -176,6 +203,7 @@ impl Census {
         self.capacities[capacity as usize - 1] += 1;
         self.note(Kind::NoTerms, after.terms == 0 && !book.is_empty());
         self.note(Kind::NoBytes, book.is_empty());
+        self.note(Kind::TwoArities, decode(OFFICE, book).is_ok_and(|terms| has_two_arities(&terms)));
         self.note(Kind::LargeBook, (513..1024).contains(&after.terms));
         self.note(Kind::FullBook, after.terms == 1024);
         self.note(Kind::FullBookMostEntries, after.terms == 1024 && capacity == OFFICE.capacity);
@@ -230,6 +258,27 @@ impl Census {
         self.note(Kind::ChoiceTurns, turned > 0);
         self.note(Kind::ChoiceAppends, appended > 0);
         self.note(Kind::ChoiceDoesNeither, answer.refusal == 0 && turned == 0 && appended == 0);
+    }
+
+    /// Holes of one symbol with unlike arities after an accepted step on a table of so many entries.
+    pub fn unlike(&mut self, call: Call, old: u32, answer: &Answer, after: &State) {
+        let unlike = unlike_holes(after);
+        let is_unlike = |i: u32| unlike.iter().any(|&(own, _)| own == i);
+        let arguments = || after.entries.iter().filter_map(|entry| entry.common.as_ref()).flat_map(|(_, arguments)| arguments);
+        self.note(Kind::UnlikeArgument, !unlike.is_empty() && arguments().any(|&i| is_unlike(i)));
+        self.note(Kind::UnlikeNone, unlike.iter().any(|(_, arities)| arities.contains(&0)));
+        self.note(Kind::UnlikeMost, unlike.iter().any(|(_, arities)| [[7, 8], [8, 7]].contains(arities)));
+        match call {
+            Call::Add { .. } => self.note(Kind::UnlikeLine, is_unlike(answer.numbers[0])),
+            Call::Bind { v, .. } => {
+                let sides = |i: u32| [after.entries[i as usize].left, after.entries[i as usize].right];
+                let is_given = |&(i, _): &(u32, [usize; 2])| i < old && sides(i).iter().any(|&side| stood_for(after, side, v));
+                let given = unlike.iter().any(is_given);
+                self.note(Kind::UnlikeChoice, given);
+                self.note(Kind::UnlikeChoiceTurns, given && answer.numbers[0] > 0);
+            }
+            _ => {}
+        }
     }
 
     /// How full a table was, and is.

@@ -135,6 +135,64 @@ fn turn_kind(random: &mut Random, area: &mut [u8]) {
     }
 }
 
+/// The first word of the row of the term that a term stands for; of any where the bindings go round.
+fn root_row(area: &[u8], mut t: usize) -> usize {
+    for _ in 0..OFFICE.terms {
+        match (word(area, OFFICE.binding(t)) as usize).checked_sub(1) {
+            Some(next) if next < OFFICE.terms => t = next,
+            _ => break,
+        }
+    }
+    OFFICE.term_row(t)
+}
+
+/// The entry with these two terms, or one more that is a hole.
+fn place(area: &mut [u8], sides: [u32; 2]) -> u32 {
+    let entries = counts(area).1;
+    if let Some(found) = (0..entries).find(|&i| [0, 1].map(|side| word(area, OFFICE.entry_row(i) + side)) == sides) {
+        return found as u32;
+    }
+    append(area, sides);
+    entries as u32
+}
+
+/// Marks a hole of one symbol with unlike arities common, with the arguments that both sides have and either arity.
+fn mark_common(random: &mut Random, area: &mut [u8]) {
+    let roots = |i: usize| [0, 1].map(|side| root_row(area, word(area, OFFICE.entry_row(i) + side).min(1023) as usize));
+    let symbol = |root: usize| word(area, root);
+    let arity = |root: usize| word(area, root + 1).min(8);
+    let is_unlike = |[l, r]: [usize; 2]| symbol(l) != 0 && symbol(l) == symbol(r) && arity(l) != arity(r);
+    let unlike: Vec<usize> = (0..counts(area).1).filter(|&i| is_unlike(roots(i))).collect();
+    if unlike.is_empty() {
+        return;
+    }
+    let i = random.pick(&unlike);
+    let ([l, r], row) = (roots(i), OFFICE.entry_row(i));
+    let (symbol, both, arity) = (symbol(l) - 1, arity(l).min(arity(r)), arity(random.pick(&[l, r])));
+    for (field, value) in [(2, 1), (3, symbol), (4, arity)] {
+        put(area, row + field, value);
+    }
+    for j in 2..2 + both as usize {
+        let argument = place(area, [word(area, l + j), word(area, r + j)]);
+        put(area, row + 3 + j, argument);
+    }
+}
+
+/// One argument more, term 0, or one less for a term with a symbol.
+fn other_arity(random: &mut Random, area: &mut [u8]) {
+    let row = OFFICE.term_row(random_term(random, area) as usize);
+    let arity = word(area, row + 1).min(8);
+    if word(area, row) == 0 {
+        return;
+    }
+    if random.below(2) == 0 {
+        put(area, row + 1, arity + 1);
+    } else if arity > 0 {
+        put(area, row + 1, arity - 1);
+        put(area, row + 1 + arity as usize, 0);
+    }
+}
+
 /// Lets an argument place name another entry, often one of the same class.
 fn other_argument(random: &mut Random, area: &mut [u8]) {
     let entries = counts(area).1;
@@ -151,9 +209,13 @@ fn other_argument(random: &mut Random, area: &mut [u8]) {
 
 /// One entry more: a hole of two terms that is the first of its class, if nothing else is.
 fn append_hole(random: &mut Random, area: &mut [u8]) {
+    let sides = [random_term(random, area), random_term(random, area)];
+    append(area, sides);
+}
+
+fn append(area: &mut [u8], sides: [u32; 2]) {
     let entries = counts(area).1;
     let row = OFFICE.entry_row(entries);
-    let sides = [random_term(random, area), random_term(random, area)];
     put(area, row, sides[0]);
     put(area, row + 1, sides[1]);
     put(area, row + 13, entries as u32);
@@ -198,6 +260,6 @@ fn other_capacity(random: &mut Random, area: &mut [u8]) {
 
 /// An edit of one thing, in all the words that it concerns.
 pub fn edit(random: &mut Random, area: &mut [u8]) {
-    let edits = [ring, copy_sides, turn_kind, other_argument, append_hole, drop_last, append_line, other_capacity];
+    let edits = [ring, copy_sides, turn_kind, mark_common, other_argument, other_arity, append_hole, drop_last, append_line, other_capacity];
     random.pick(&edits)(random, area);
 }

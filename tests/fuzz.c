@@ -1,9 +1,9 @@
 /* Fuzzing of the whole C interface; tests/fuzz builds and runs it. An input is a capacity (two bytes, the lower first), the length of a
    book (two bytes), the book, and calls: a call's number and two numbers, of a byte each, or of two where WIDE is added to the call's
-   number. Some calls damage a word of the area, and some lend only the front of it. Each call is made by the library and by the second implementation (second.rs), which must
-   answer and leave the same. What is lent to the library ends where a page begins that no one may touch, and has guard bytes before it.
-   At the end the accepted choices and then the accepted lines are done on a fresh area, where none may be refused and the
-   report must be the same.
+   number. Some calls damage a word of the area, and some lend only the front of it. Each call is made by the library and by the second
+   implementation (second.rs), which must answer and leave the same; neither may give 6. What is lent to the library ends where a page begins
+   that no one may touch, and has guard bytes before it. At the end the accepted choices and then the accepted lines are done on a fresh
+   area, where none may be refused and the report must be the same.
    Of storing the numbers are the lengths of its two outputs, of restoring that of the list, whose bytes come next in the input, and of
    the output. Beside the comparison what is stored is tested by what makes it the only book and list, a list's refusal by its numbers, what
    is restored by restoring again; a book's refusal is that of fit_copy_book. */
@@ -125,6 +125,8 @@ static uint32_t call(enum name name, uint32_t a, uint32_t b, struct bytes book, 
     copy(second_area, area.start, area.length);
     copy(second_out, out.start, out.length);
     refusal = library(name, a, b, book, area, out, ours + 1);
+    if (refusal == FIT_TWO_COUNTS)
+        fail("6, which no call gives any more", name, a, b);
     if (refusal != second(name, a, b, book, their_area, their_out, theirs))
         fail("another refusal", name, a, b);
     for (i = 0; i < FIELDS; i++)
@@ -180,7 +182,7 @@ static uint8_t refusals[2][FIT_NAMED_TWICE + 1] __attribute__((section("__libfuz
 
 static void note(enum name name, uint32_t a, uint32_t b, uint32_t refusal)
 {
-    if (refusal > FIT_NAMED_TWICE || refusal == FIT_NOT_SOUND)
+    if (refusal > FIT_NAMED_TWICE || refusal == FIT_NOT_SOUND || refusal == FIT_TWO_COUNTS)
         fail("no refusal of this call", name, a, b);
     refusals[name == RESTORE][refusal] = 1;
 }
@@ -298,6 +300,8 @@ static uint32_t refusal_of(const struct kept *book)
         fail("copied as another book", COPY, 0, MOST_OUT);
     if (refusal != 0 && book->length == 0)
         fail("a book of no bytes is refused", COPY, 0, MOST_OUT);
+    if (refusal > FIT_NOT_LOWER)
+        fail("no refusal of a book", COPY, 0, MOST_OUT);
     return refusal;
 }
 

@@ -12,6 +12,10 @@ const BOOK_A: &[u8] = &[6, 0, 4, 0, 2, 1, 0, 2, 1, 1, 3, 2, 2, 0, 3, 2, 3, 1];
 const BOOK_B: &[u8] = &[5, 0, 0, 4, 0, 2, 1, 1, 2, 1, 2];
 /// A book in which three terms change places in a ring when it is stored.
 const RING: &[u8] = &[4, 1, 0, 2, 1, 0, 0, 3, 2, 1, 2];
+/// Books with a symbol of two arities: s3(s2(s0)) and s3(s2(s0, s1)); a variable beside s1(s0) and s1(s0, s0); s0 and s0(s0).
+const BOOK_F: &[u8] = &[6, 1, 0, 2, 0, 3, 1, 0, 3, 2, 0, 1, 4, 1, 2, 4, 1, 3];
+const BOOK_G: &[u8] = &[4, 0, 1, 0, 2, 1, 1, 2, 2, 1, 1];
+const LEAST_UNLIKE: &[u8] = &[2, 1, 0, 1, 1, 0];
 /// A call as three bytes: its number and two numbers.
 type Three = [u8; 3];
 const OPEN_AGAIN: Three = [0, 0, 0];
@@ -56,12 +60,15 @@ const SAMPLES: &[(&str, u16, &[u8], &[Three])] = &[
     ("B5", 1024, BOOK_B, &[bind(0, 1), bind(1, 0), REPORT]),
     ("Z1", 1024, &[0], &[REPORT, [5, 0, 255], [6, 0, 255]]),
     ("no_bytes", 1024, &[], &[REPORT, add(0, 0), [5, 0, 255], [5, 0, 0], [6, 0, 0], [6, 0, 1], [6, 0, 255]]),
+    ("F1", 1024, BOOK_F, &[add(4, 5), REPORT, entry(0), entry(1)]),
+    ("F2", 1024, BOOK_G, &[add(0, 2), add(0, 3), bind(0, 3), REPORT, entry(0), entry(1)]),
+    ("F2_the_other", 1024, BOOK_G, &[add(0, 2), add(0, 3), bind(0, 2), REPORT, entry(0), entry(1)]),
+    ("F3", 1, LEAST_UNLIKE, &[add(0, 1), REPORT, entry(0), [5, 0, 255], [6, 0, 16], store(6, 2)]),
     ("refused_1", 1, &[0x01], &[[6, 0, 16]]),
     ("refused_2", 1, &[0x80, 0x00], &[[6, 0, 16]]),
     ("refused_3", 1, &[0x00, 0x05], &[[6, 0, 16]]),
     ("refused_4", 1, &[0x81, 0x08], &[[6, 0, 16]]),
     ("refused_5", 1, &[0x01, 0x01, 0x01, 0x00], &[[6, 0, 16]]),
-    ("refused_6", 1, &[0x02, 0x01, 0x00, 0x01, 0x01, 0x00], &[[6, 0, 16]]),
     ("no_such_capacity", 2049, BOOK_B, &[]),
     ("short_outputs", 1024, BOOK_B, &[add(0, 4), [4, 0, 5], [4, 0, 6], [5, 0, 10], [5, 0, 11], [6, 0, 10], [6, 0, 11]]),
     ("damaged_header", 1024, BOOK_B, &[[7, 1, 6], REPORT, OPEN_AGAIN, REPORT]),

@@ -26,15 +26,9 @@ fn number(bytes: &[u8], at: &mut usize) -> Result<u32, u32> {
     Err(2)
 }
 
-/// Whether no earlier row has this first number with another arity.
-fn fits_earlier(rows: &[u32], first: u32, arity: u32) -> bool {
-    rows.chunks_exact(TERM_ROW).all(|row| row[0] != first || row[1] == arity)
-}
-
-/// Decodes into rows; a book of no bytes has none. The rule that a symbol has one arity is tested by a table of symbols or by a look back.
-fn decode<const LOOK_BACK: bool>(bytes: &[u8], rows: &mut [u32; ROWS]) -> Result<usize, u32> {
+/// Decodes into rows; a book of no bytes has none.
+fn decode(bytes: &[u8], rows: &mut [u32; ROWS]) -> Result<usize, u32> {
     let mut at = 0;
-    let mut arities = [0u8; 4096];
     let count = if bytes.is_empty() { 0 } else { number(bytes, &mut at)? as usize };
     if count > 1024 {
         return Err(4);
@@ -50,17 +44,6 @@ fn decode<const LOOK_BACK: bool>(bytes: &[u8], rows: &mut [u32; ROWS]) -> Result
         let arity = number(bytes, &mut at)?;
         if arity > 8 {
             return Err(4);
-        }
-        if LOOK_BACK {
-            if !fits_earlier(&rows[..TERM_ROW * t], first, arity) {
-                return Err(6);
-            }
-        } else {
-            let seen = &mut arities[first as usize - 1];
-            if *seen != 0 && u32::from(*seen) != arity + 1 {
-                return Err(6);
-            }
-            *seen = arity as u8 + 1;
         }
         let row = &mut rows[TERM_ROW * t..TERM_ROW * (t + 1)];
         row[0] = first;
@@ -85,7 +68,7 @@ fn store(area: &mut [u8], words: &[u32]) {
     }
 }
 
-pub fn open<const LOOK_BACK: bool>(capacity: u32, book: &[u8], area: &mut [u8]) -> u32 {
+fn open(capacity: u32, book: &[u8], area: &mut [u8]) -> u32 {
     let needed = OFFICE.area_length(capacity);
     if needed == 0 {
         return 4;
@@ -94,7 +77,7 @@ pub fn open<const LOOK_BACK: bool>(capacity: u32, book: &[u8], area: &mut [u8]) 
         return 7;
     }
     let mut rows = [0; ROWS];
-    let count = match decode::<LOOK_BACK>(book, &mut rows) {
+    let count = match decode(book, &mut rows) {
         Ok(count) => count,
         Err(refusal) => return refusal,
     };
@@ -147,7 +130,7 @@ fn encode(rows: &[u32], out: &mut [u8]) -> (u32, u32) {
 /// Copying, in the form of the second implementation's.
 pub fn copy_book(_: Limits, book: &[u8], out: &mut [u8]) -> Answer {
     let mut rows = [0; ROWS];
-    let (refusal, written) = match decode::<false>(book, &mut rows) {
+    let (refusal, written) = match decode(book, &mut rows) {
         Ok(count) => encode(&rows[..TERM_ROW * count], out),
         Err(refusal) => (refusal, 0),
     };
@@ -169,7 +152,7 @@ pub fn restore_book(_: Limits, book: &[u8], list: &[u8], out: &mut [u8]) -> Answ
 /// A call on an area, in that form.
 pub fn perform(_: Limits, call: Call, area: &mut [u8], out: &mut [u8]) -> Answer {
     let (refusal, numbers) = match call {
-        Call::Open { capacity, book } => (open::<false>(capacity, book, area), [0, 0]),
+        Call::Open { capacity, book } => (open(capacity, book, area), [0, 0]),
         Call::Entry { i } => {
             let (refusal, numbers) = calls::entry(area, i);
             return Answer { refusal, numbers };

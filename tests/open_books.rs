@@ -10,7 +10,8 @@ mod library;
 mod reference;
 mod samples;
 
-use reference::{bytes_of, copy_book, decode, encode, first_seed, perform, random_book, times, written_back, Answer, Call, Random, OFFICE};
+use reference::{bytes_of, copy_book, decode, encode, first_seed, has_arities, has_two_arities, perform, random_book, times, written_back};
+use reference::{Answer, Call, Random, Term, OFFICE};
 use samples::Tally;
 
 const CASES: u64 = 120_000;
@@ -27,26 +28,65 @@ kinds! {
     NoBytesCopiedLonger, "a book of no bytes copied into a longer output";
     NoBytesNoOutput, "a book of no bytes refused with 13";
     BrokenOff, "a book that breaks off after its first byte, refused with 1";
+    TwoAritiesOpened, "a book with a symbol of two arities opened";
+    TwoAritiesCopied, "a book with a symbol of two arities copied";
+    Arities0, "a valid book with a symbol of arities 0 and 1";
+    Arities7, "a valid book with a symbol of arities 7 and 8";
+    OneArity, "a valid book in which each symbol has one arity";
     Valid, "a valid book";
     Fronts, "a valid book of which every front is tried";
 }
 
-/// How often each kind of case occurred.
+/// The two calls, and the answers that docs/SPEC.md gives each: 0 and its refusals.
+const CALLS: [(&str, &[usize]); 2] = [("opening", &[0, 1, 2, 3, 4, 5, 7]), ("copying", &[0, 1, 2, 3, 4, 5, 13])];
+const ANSWERS: usize = 15;
+
+/// How often each answer and each kind of case occurred.
 #[derive(Default)]
-struct Census([u64; KINDS.len()]);
+struct Census {
+    answers: [[u64; ANSWERS]; CALLS.len()],
+    kinds: [u64; KINDS.len()],
+}
 
 impl Census {
     fn note(&mut self, kind: Kind, occurs: bool) {
-        self.0[kind as usize] += u64::from(occurs);
+        self.kinds[kind as usize] += u64::from(occurs);
+    }
+
+    /// Whether each call gave every answer that it can give, and no other.
+    fn has_all_answers(&self) -> bool {
+        let complete = |(counts, (_, possible)): (&[u64; ANSWERS], &(&str, &[usize]))| (0..ANSWERS).all(|i| (counts[i] > 0) == possible.contains(&i));
+        self.answers.iter().zip(&CALLS).all(complete)
+    }
+
+    fn print(&self) {
+        for ((what, _), answers) in CALLS.iter().zip(&self.answers) {
+            let counts: Vec<String> = (0..ANSWERS).filter(|&i| answers[i] > 0).map(|i| format!("{i}: {}", answers[i])).collect();
+            println!("{what}, by answer: {}", counts.join(", "));
+        }
+        kinds::print(KINDS, &self.kinds);
+    }
+
+    /// A valid book, and whether it was opened and copied.
+    fn valid(&mut self, terms: &[Term], [opened, copied]: [bool; 2]) {
+        let two_arities = has_two_arities(terms);
+        self.note(Kind::Valid, true);
+        self.note(Kind::TwoAritiesOpened, two_arities && opened);
+        self.note(Kind::TwoAritiesCopied, two_arities && copied);
+        self.note(Kind::Arities0, has_arities(terms, [0, 1]));
+        self.note(Kind::Arities7, has_arities(terms, [7, 8]));
+        self.note(Kind::OneArity, !two_arities && !terms.is_empty());
     }
 
     fn opening(&mut self, book: &[u8], answer: &Answer) {
+        self.answers[0][answer.refusal as usize] += 1;
         self.note(Kind::NoBytesOpened, book.is_empty() && answer.refusal == 0);
         self.note(Kind::NoBytesInShortArea, book.is_empty() && answer.refusal == 7);
         self.note(Kind::BrokenOff, !book.is_empty() && answer.refusal == 1);
     }
 
     fn copying(&mut self, book: &[u8], length: usize, answer: &Answer) {
+        self.answers[1][answer.refusal as usize] += 1;
         self.note(Kind::NoBytesCopied, book.is_empty() && answer.refusal == 0 && length == 1);
         self.note(Kind::NoBytesCopiedLonger, book.is_empty() && answer.refusal == 0 && length > 1);
         self.note(Kind::NoBytesNoOutput, book.is_empty() && answer.refusal == 13);
@@ -94,8 +134,8 @@ fn random_capacity(random: &mut Random) -> u32 {
     }
 }
 
-/// Opening agrees in the answer and in every byte of the area.
-fn open_agrees(random: &mut Random, book: &[u8], census: &mut Census) -> bool {
+/// Whether opening agrees in the answer and in every byte of the area, and whether it is accepted.
+fn open_agrees(random: &mut Random, book: &[u8], census: &mut Census) -> [bool; 2] {
     let capacity = random_capacity(random);
     let needed = OFFICE.area_length(capacity);
     let length = match random.below(16) {
@@ -111,11 +151,11 @@ fn open_agrees(random: &mut Random, book: &[u8], census: &mut Census) -> bool {
     let expected = perform(OFFICE, Call::Open { capacity, book }, &mut theirs, &mut []);
     let same_answer = fit::open(capacity, book, &mut ours) == expected.refusal;
     census.opening(book, &expected);
-    same_length && same_answer && ours == theirs
+    [same_length && same_answer && ours == theirs, expected.refusal == 0]
 }
 
-/// Copying agrees in the answer, the count and every byte of the output.
-fn copy_agrees(random: &mut Random, book: &[u8], census: &mut Census) -> bool {
+/// Whether copying agrees in the answer, the count and every byte of the output, and whether it is accepted.
+fn copy_agrees(random: &mut Random, book: &[u8], census: &mut Census) -> [bool; 2] {
     let needed = written_back(book).len();
     let length = match random.below(4) {
         0 => random.place(needed + 1),
@@ -128,7 +168,7 @@ fn copy_agrees(random: &mut Random, book: &[u8], census: &mut Census) -> bool {
     let answer = library::copy_book(OFFICE, book, &mut ours);
     let expected = copy_book(OFFICE, book, &mut theirs);
     census.copying(book, length, &expected);
-    answer == expected && ours == theirs
+    [answer == expected && ours == theirs, expected.refusal == 0]
 }
 
 /// A valid book cut anywhere after its first byte is refused with 1 by both, opened and copied, and area and output stay.
@@ -148,15 +188,16 @@ fn fronts_are_refused(book: &[u8]) -> bool {
 fn run_case(seed: u64, census: &mut Census) -> [bool; 3] {
     let random = &mut Random(seed);
     let book = random_bytes(random);
-    let agree = [open_agrees(random, &book, census), copy_agrees(random, &book, census)];
+    let [open_agrees, opened] = open_agrees(random, &book, census);
+    let [copy_agrees, copied] = copy_agrees(random, &book, census);
     let Ok(terms) = decode(OFFICE, &book) else {
-        return [agree[0], agree[1], true];
+        return [open_agrees, copy_agrees, true];
     };
     assert_eq!(encode(&terms), written_back(&book), "the second implementation itself does not write back what it read");
     let are_tried = book.len() <= FRONTS_MOST && random.below(FRONTS_EVERY) == 0;
-    census.note(Kind::Valid, true);
+    census.valid(&terms, [opened, copied]);
     census.note(Kind::Fronts, are_tried && book.len() > 1);
-    [agree[0], agree[1], !are_tried || fronts_are_refused(&book)]
+    [open_agrees, copy_agrees, !are_tried || fronts_are_refused(&book)]
 }
 
 fn main() {
@@ -179,11 +220,12 @@ fn main() {
         }
     }
     println!("{cases} random books from seed {first:#x}; opening, copying and fronts: {failures:?} differ");
-    kinds::print(KINDS, &census.0);
-    let missing = kinds::missing(KINDS, &census.0);
+    census.print();
+    let missing = kinds::missing(KINDS, &census.kinds);
     tally.test("opening agrees", failures[0] == 0);
     tally.test("copying agrees", failures[1] == 0);
     tally.test("a book that breaks off after its first byte is refused with 1", failures[2] == 0);
+    tally.test("each call gives every answer that it can give, and no other", census.has_all_answers());
     tally.test(&format!("every kind of case occurs, but: {missing:?}"), missing.is_empty());
     tally.finish()
 }

@@ -1,6 +1,7 @@
-//! The time for one fit line, against SWI-Prolog's term_subsumer/3 on the same two sheets: trees of 511 nodes, and sheets with shared
-//! parts, where each level is twice the one below. By hand: `tests/prolog`. Ours is opening the book of both sheets, adding the line and
-//! reporting it, from bytes to bytes; Prolog's is the one goal, on terms that it has built before. Both find as many open places.
+//! The time for one fit line, against SWI-Prolog's term_subsumer/3 on the same two sheets: trees of 511 nodes, trees over trays of which
+//! some have one argument and some two, and sheets with shared parts, where each level is twice the one below. By hand: `tests/prolog`.
+//! Ours is opening the book of both sheets, adding the line and reporting it, from bytes to bytes; Prolog's is the one goal, on terms
+//! that it has built before. Both find as many open places.
 
 mod fit;
 mod reference;
@@ -15,6 +16,7 @@ const ROUNDS: usize = 200;
 const CAPACITY: u32 = 1024;
 const NODE: u32 = 0;
 const FIRST_LEAF: u32 = 1;
+const TRAY: u32 = 100;
 
 /// A book, and the two sheets of its line.
 struct Sheets {
@@ -28,19 +30,27 @@ fn push(terms: &mut Vec<Term>, symbol: u32, arguments: Vec<u32>) -> u32 {
     terms.len() as u32 - 1
 }
 
-/// The tree of tests/prolog.pl: leaf number n is the constant n * n / 3 modulo k.
-fn tree(terms: &mut Vec<Term>, levels: u32, k: u32) -> u32 {
-    let mut row: Vec<u32> = (0..1u32 << levels).map(|n| push(terms, FIRST_LEAF + n * n / 3 % k, vec![])).collect();
+/// The tree of tests/prolog.pl: leaf number n is the constant n * n / 3 modulo k, or a tray over it, over it twice where k divides n.
+fn tree(terms: &mut Vec<Term>, levels: u32, k: u32, trays: bool) -> u32 {
+    let leaf = |n: u32| {
+        let constant = push(terms, FIRST_LEAF + n * n / 3 % k, vec![]);
+        match (trays, n % k) {
+            (false, _) => constant,
+            (true, 0) => push(terms, TRAY, vec![constant, constant]),
+            (true, _) => push(terms, TRAY, vec![constant]),
+        }
+    };
+    let mut row: Vec<u32> = (0..1u32 << levels).map(leaf).collect();
     while row.len() > 1 {
         row = row.chunks(2).map(|two| push(terms, NODE, two.to_vec())).collect();
     }
     row[0]
 }
 
-fn trees(levels: u32) -> Sheets {
+fn trees(levels: u32, trays: bool) -> Sheets {
     let mut terms = Vec::new();
-    let left = tree(&mut terms, levels, 3);
-    let right = tree(&mut terms, levels, 4);
+    let left = tree(&mut terms, levels, 3, trays);
+    let right = tree(&mut terms, levels, 4, trays);
     Sheets { terms, left, right }
 }
 
@@ -88,10 +98,11 @@ fn main() {
     let mut lost = false;
     println!("| sheets | ours, µs | SWI-Prolog, µs | times ours |\n|---|---|---|---|");
     let deep = [10, 15, 20, 25, 30, 40, 50, 60, 70, 80, 90, 100];
-    let cases = std::iter::once(("tree", 8)).chain(deep.map(|levels| ("shared", levels)));
+    let cases = [("tree", 8), ("trays", 7)].into_iter().chain(deep.map(|levels| ("shared", levels)));
     for (kind, levels) in cases {
         let (sheets, what) = match kind {
-            "tree" => (trees(levels), format!("trees of {} nodes", (2 << levels) - 1)),
+            "tree" => (trees(levels, false), format!("trees of {} nodes", (2 << levels) - 1)),
+            "trays" => (trees(levels, true), format!("trees of {} nodes over trays", (2 << levels) - 1)),
             _ => (shared(levels), format!("shared parts, {levels} levels")),
         };
         let (time, open) = ours(&sheets);

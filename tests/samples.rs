@@ -8,6 +8,10 @@ use crate::reference::{encode, written_back, Answer, Call, CopyBook, Limits, Per
 
 const BOOK_A: &[u8] = &[6, 0, 4, 0, 2, 1, 0, 2, 1, 1, 3, 2, 2, 0, 3, 2, 3, 1];
 const BOOK_B: &[u8] = &[5, 0, 0, 4, 0, 2, 1, 1, 2, 1, 2];
+/// Books with a symbol of two arities: s3(s2(s0)) and s3(s2(s0, s1)); a variable beside s1(s0) and s1(s0, s0); s0 and s0(s0).
+const BOOK_F: &[u8] = &[6, 1, 0, 2, 0, 3, 1, 0, 3, 2, 0, 1, 4, 1, 2, 4, 1, 3];
+const BOOK_G: &[u8] = &[4, 0, 1, 0, 2, 1, 1, 2, 2, 1, 1];
+const LEAST_UNLIKE: &[u8] = &[2, 1, 0, 1, 1, 0];
 const FILLING: u8 = 0xEE;
 
 /// A call, its refusal number and its other numbers.
@@ -84,6 +88,21 @@ const SAMPLES: &[Sample] = &[
     Sample { name: "Z1", book: &[0], steps: &[], report: &[0, 0], entries: &[] },
     Sample { name: "Z1 of no bytes", book: &[], steps: &[(Call::Add { l: 0, r: 0 }, 8, &[])], report: &[0, 0], entries: &[] },
     Sample {
+        name: "F1",
+        book: BOOK_F,
+        steps: &[add(4, 5, &[0])],
+        report: &[1, 0, 2, 4, 5, 4, 1, 1, 2, 3, 0],
+        entries: &[(&[4, 5, 1, 3, 1, 1], 0), (&[2, 3], 1)],
+    },
+    Sample {
+        name: "F2",
+        book: BOOK_G,
+        steps: &[add(0, 2, &[0]), add(0, 3, &[1]), bind(0, 3, &[1, 1])],
+        report: &[2, 0, 1, 3, 0, 2, 0, 0, 0, 2, 2, 2, 2, 1, 1, 1, 0],
+        entries: &[(&[0, 2], 0), (&[0, 3, 1, 1, 2, 2, 2], 1), (&[1, 1, 1], 2)],
+    },
+    Sample { name: "F3", book: LEAST_UNLIKE, steps: &[add(0, 1, &[0])], report: &[1, 0, 1, 0, 1, 0], entries: &[(&[0, 1], 0)] },
+    Sample {
         name: "a pair has an order",
         book: BOOK_B,
         steps: &[add(0, 1, &[0]), add(1, 0, &[1])],
@@ -107,14 +126,13 @@ const B2: Sample = Sample {
     entries: &[(&[0, 4], 0)],
 };
 
-/// Books that are refused: the examples of refusals 1 to 6, the table of numbers and the table of orders.
+/// Books that are refused: the examples of refusals 1 to 5, the table of numbers and the table of orders.
 const REFUSED_BOOKS: &[(&[u8], u32)] = &[
     (&[0x01], 1),
     (&[0x80, 0x00], 2),
     (&[0x00, 0x05], 3),
     (&[0x81, 0x08], 4),
     (&[0x01, 0x01, 0x01, 0x00], 5),
-    (&[0x02, 0x01, 0x00, 0x01, 0x01, 0x00], 6),
     (&[0x80], 1),
     (&[0x80, 0x80], 1),
     (&[0x02, 0x00], 1),
@@ -124,7 +142,8 @@ const REFUSED_BOOKS: &[(&[u8], u32)] = &[
     (&[0x80, 0x80, 0x04], 2),
     (&[0xFF, 0xFF, 0x03], 4),
     (&[0x01, 0x81, 0x20], 4),
-    (&[0x03, 0x00, 0x02, 0x01, 0x00, 0x02, 0x02, 0x05, 0x05], 6),
+    (&[0x02, 0x01, 0x00, 0x01, 0x09, 0x80], 4),
+    (&[0x03, 0x00, 0x02, 0x01, 0x00, 0x02, 0x02, 0x05, 0x05], 5),
     (&[0x02, 0x00, 0x01, 0x02, 0x05, 0x80, 0x00], 5),
     (&[0x02, 0x00, 0x01, 0x02, 0x80, 0x00, 0x05], 2),
 ];
@@ -318,11 +337,13 @@ fn sorted(parts: &[&[(usize, u32)]]) -> Vec<(usize, u32)> {
 
 /// The book in which three terms change places in a ring, as it is and as it is stored, and its list.
 const RING: (&[u8], &[u8], &[u8]) = (&[4, 1, 0, 2, 1, 0, 0, 3, 2, 1, 2], &[4, 0, 1, 0, 2, 1, 1, 3, 2, 2, 0], &[2, 0, 1, 3]);
+/// The same of a book in which symbol 0 has arities 0, 2 and 1.
+const UNLIKE: (&[u8], &[u8], &[u8]) = (&[4, 1, 0, 0, 1, 2, 0, 1, 1, 1, 2], &[4, 0, 1, 0, 1, 2, 1, 0, 1, 1, 2], &[1, 0, 2, 3]);
 const NO_TERMS: (&[u8], &[u8], &[u8]) = (&[0], &[0], &[]);
 const NO_BYTES: (&[u8], &[u8], &[u8]) = (&[], &[0], &[]);
 
 /// Books that are valid.
-const WHOLE_BOOKS: [&[u8]; 3] = [BOOK_A, BOOK_B, RING.0];
+const WHOLE_BOOKS: [&[u8]; 6] = [BOOK_A, BOOK_B, RING.0, BOOK_F, BOOK_G, LEAST_UNLIKE];
 
 /// A variable, symbol 0 and symbol 1 over it; lists that are refused with it where the output has 6 bytes, and with what.
 const LISTED: &[u8] = &[3, 0, 1, 0, 2, 1, 1];
@@ -355,7 +376,8 @@ pub fn run_copies(limits: Limits, copy: CopyBook, tally: &mut Tally) {
 /// The samples of storing and restoring.
 pub fn run_archive(limits: Limits, store: Store, restore: Restore, tally: &mut Tally) {
     let subject = Archive { limits, store, restore };
-    for (what, sample) in [("the ring", RING), ("the book without terms", NO_TERMS), ("the book of no bytes", NO_BYTES)] {
+    let samples = [("the ring", RING), ("a symbol of three arities", UNLIKE), ("the book without terms", NO_TERMS), ("the book of no bytes", NO_BYTES)];
+    for (what, sample) in samples {
         tally.test(&format!("{what} is stored"), subject.stores(sample));
         tally.test(&format!("{what} is restored"), subject.restores(sample.1, sample.2, written_back(sample.0)));
     }

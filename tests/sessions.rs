@@ -6,7 +6,8 @@
 mod bases;
 mod reference;
 
-use reference::{bytes_of, encode, first_seed, push_number, random_book, session, times, Call, End, Part, Random, Session, Term, LONGEST};
+use reference::{bytes_of, encode, first_seed, has_two_arities, push_number, random_book, session, times, Call, End, Part, Random, Session, Term};
+use reference::LONGEST;
 use std::collections::BTreeMap;
 use std::io::{Read, Write};
 use std::os::fd::OwnedFd;
@@ -138,15 +139,16 @@ fn over(symbol: u32, arguments: &[u32]) -> Term {
     Term::Application { symbol, arguments: arguments.to_vec() }
 }
 
-/// Variables, and then terms of one symbol over some of them.
-fn wide_book(random: &mut Random, count: usize) -> Vec<Term> {
+/// Variables, and then terms of one symbol over some of them, all of one arity or some with one argument less.
+fn wide_book(random: &mut Random, count: usize, alike: bool) -> Vec<Term> {
     let variables = 2 + random.place(count / 2);
-    let arity = 1 + random.place(8);
+    let most = 1 + random.place(8);
     (0..count)
         .map(|own| {
             if own < variables {
                 Term::Variable
             } else {
+                let arity = if alike { most } else { most - random.place(2) };
                 let arguments: Vec<u32> = (0..arity).map(|_| random.place(own) as u32).collect();
                 over(7, &arguments)
             }
@@ -192,9 +194,9 @@ fn long(random: &mut Random, kind: u64) -> Vec<u8> {
         }
         3 => of(&encode(&bases::narrow_book(random, 30)), &lines(random, 260, 30)),
         // lines over many variables: the table fills up
-        4 => of(&encode(&wide_book(random, 400)), &lines(random, 256, 400)),
+        4 => of(&encode(&wide_book(random, 400, true)), &lines(random, 256, 400)),
         _ => {
-            let terms = wide_book(random, 1_024);
+            let terms = wide_book(random, 1_024, false);
             let length = 20_000 + random.place(10_000);
             filled(random, &terms, length, 200)
         }
@@ -238,12 +240,17 @@ fn kinds() -> Vec<String> {
         "a report, a refused step and a report",
         "a report, an accepted step and another report",
         "a report, an accepted step and the same report",
+        "a book with a symbol of two arities",
+        "a line that is a hole of one symbol with unlike arities",
+        "such a hole as an argument",
+        "such a hole after a choice, which gave one side its symbol",
+        "such a hole as a line of the last step, a report",
     ]
     .map(String::from)
     .to_vec();
     kinds.extend([1, 2, 4].map(|refusal| format!("number of terms refused with {refusal}")));
-    kinds.extend([1, 2, 4, 5, 6].map(|refusal| format!("term refused with {refusal}")));
-    kinds.extend([1, 2, 3, 4, 5, 6, 8].map(|refusal| format!("said: refused with {refusal}")));
+    kinds.extend([1, 2, 4, 5].map(|refusal| format!("term refused with {refusal}")));
+    kinds.extend([1, 2, 3, 4, 5, 8].map(|refusal| format!("said: refused with {refusal}")));
     kinds.extend((8..=12).map(|refusal| format!("step refused with {refusal}")));
     kinds
 }
@@ -274,6 +281,26 @@ impl Census {
             self.note(format!("said: refused with {}", &refusal[..1]));
         }
         self.steps(session);
+        self.arities(session);
+    }
+
+    /// What the session's area holds in the end that has to do with unlike arities.
+    fn arities(&mut self, session: &Session) {
+        let state = &session.state;
+        let is_unlike = |&i: &u32| state.unlike_arities(&state.entries[i as usize]).is_some();
+        let is_bound = |t: u32| state.bindings[t as usize].is_some();
+        let unlike: Vec<u32> = (0..state.entries.len() as u32).filter(is_unlike).collect();
+        let arguments = || state.entries.iter().filter_map(|entry| entry.common.as_ref()).flat_map(|(_, arguments)| arguments);
+        let by_choice = |&i: &u32| is_bound(state.entries[i as usize].left) || is_bound(state.entries[i as usize].right);
+        let has_line = state.lines.iter().any(|line| unlike.contains(line));
+        let kinds = [
+            ("a book with a symbol of two arities", has_two_arities(&state.terms)),
+            ("a line that is a hole of one symbol with unlike arities", has_line),
+            ("such a hole as an argument", !unlike.is_empty() && arguments().any(|i| unlike.contains(i))),
+            ("such a hole after a choice, which gave one side its symbol", unlike.iter().any(by_choice)),
+            ("such a hole as a line of the last step, a report", has_line && session.steps.last() == Some(&3)),
+        ];
+        kinds.into_iter().filter(|(_, occurs)| *occurs).for_each(|(kind, _)| self.note(kind));
     }
 
     fn end(&mut self, end: &End) {
@@ -359,6 +386,7 @@ fn worked() -> Vec<(Vec<u8>, &'static str, String)> {
         (vec![1, 0, 3, 0x80], "0\n0 0 0\n1\n", said(3, 1)),
         (vec![4, 1, 1, 1, 0], "5\n", said(2, 5)),
         (vec![2, 0, 5], "3\n", said(2, 3)),
+        (of(&[2, 1, 0, 1, 1, 0], &[1, 0, 1, 3]), "0\n0 0\n0 1 0 1 0 1 0\n", String::new()),
         (of(&book_a, &[1, 4, 5, 3, 2, 0, 1, 3]), sample, String::new()),
     ]
 }

@@ -4,8 +4,9 @@
 // Each program uses a part.
 #![allow(dead_code)]
 
-use crate::reference::{are_distinct, arguments_are_lower, decode, decode_numbers, encode, encode_list, faults, perform, renumbered};
-use crate::reference::{restored_bytes, restored_terms, stored_bytes, stored_terms, Answer, Call, Fault, Term, OFFICE};
+use crate::reference::{are_distinct, arguments_are_lower, decode, decode_numbers, encode, encode_list, faults, has_two_arities, one_symbol};
+use crate::reference::{perform, read, renumbered, restored_bytes, restored_terms, store, stored_bytes, stored_terms, Answer, Call, Entry};
+use crate::reference::{Fault, State, Term, Values, OFFICE};
 use std::sync::OnceLock;
 
 fn mistake() -> &'static str {
@@ -17,8 +18,19 @@ fn is(name: &str) -> bool {
     mistake() == name
 }
 
-/// The answer. An area is taken for sound where its only fault is the mistake, and a refusal 11 may leave a mark.
+/// Whether a sound area has a hole of one symbol with unlike arities.
+fn has_unlike_hole(area: &[u8]) -> bool {
+    let state = read(OFFICE, area);
+    state.entries.iter().any(|entry| state.unlike_arities(entry).is_some())
+}
+
+/// The answer. An area is taken for sound where its only fault is the mistake, or for unsound where a hole has one symbol on both sides,
+/// and a refusal 11 may leave a mark.
 fn call(call: Call, area: &mut [u8], out: &mut [u8]) -> Answer {
+    let is_tested = !matches!(call, Call::Open { .. }) && is("soundness-by-symbol");
+    if is_tested && faults(OFFICE, area).is_empty() && has_unlike_hole(area) {
+        return Answer::new(7, &[]);
+    }
     let mut answer = perform(OFFICE, call, area, out);
     let untested = Fault::ALL.iter().find(|(fault, _, _)| is(&format!("{fault:?}")));
     if answer.refusal == 7 && untested.is_some_and(|&(fault, _, _)| faults(OFFICE, area).is_only(fault)) {
@@ -38,12 +50,48 @@ fn put_word(area: &mut [u8], i: usize, value: u32) {
     area[4 * i..4 * i + 4].copy_from_slice(&value.to_le_bytes());
 }
 
-/// A step. A full table may be refused, and the byte behind the needed length may be lost.
+/// The entry of a pair, one more where it has none; none where there is no room.
+fn place(state: &mut State, values: &Values, l: u32, r: u32) -> Option<u32> {
+    let has_values = |entry: &Entry| values.pair(entry.left, entry.right) == values.pair(l, r);
+    if let Some(found) = state.entries.iter().position(has_values) {
+        return Some(found as u32);
+    }
+    let own = state.entries.len() as u32;
+    state.entries.push(Entry { left: l, right: r, common: None, same_as: own });
+    (own < state.capacity).then_some(own)
+}
+
+/// Goes on with the walk by the symbol alone, over the arguments that both sides have; none where there is no room.
+fn walk_by_symbol(state: &mut State) -> Option<()> {
+    let values = state.values().ok()?;
+    let mut i = 0;
+    while i < state.entries.len() {
+        let Entry { left, right, ref common, .. } = state.entries[i];
+        let found = one_symbol(&state.terms, &state.bindings, left, right).filter(|_| common.is_none());
+        if let Some((symbol, left, right)) = found {
+            let pairs: Vec<(u32, u32)> = left.iter().copied().zip(right.iter().copied()).collect();
+            let arguments: Option<Vec<u32>> = pairs.into_iter().map(|(l, r)| place(state, &values, l, r)).collect();
+            state.entries[i].common = Some((symbol, arguments?));
+        }
+        i += 1;
+    }
+    Some(())
+}
+
+/// A step. Terms of one symbol may be taken for alike, a full table may be refused, and the byte behind the needed length may be lost.
 fn step(what: Call, area: &mut [u8]) -> Answer {
     let before = area.to_vec();
     let answer = call(what, area, &mut []);
     if answer.refusal != 0 {
         return answer;
+    }
+    if is("alike-by-symbol") || is("alike-by-symbol-in-choices") && matches!(what, Call::Bind { .. }) {
+        let mut state = read(OFFICE, area);
+        if walk_by_symbol(&mut state).is_none() {
+            area.copy_from_slice(&before);
+            return Answer::new(11, &[]);
+        }
+        store(OFFICE, &state, area);
     }
     if is("11-when-just-full") && word(area, 2) == word(area, 0) && word(area, 2) > word(&before, 2) {
         area.copy_from_slice(&before);
@@ -84,6 +132,14 @@ fn taken(book: &[u8]) -> &[u8] {
     }
 }
 
+/// The terms of a book; a symbol with two arities may still be refused.
+fn terms_of(book: &[u8]) -> Result<Vec<Term>, u32> {
+    match decode(OFFICE, taken(book)) {
+        Ok(terms) if is("6-still-given") && has_two_arities(&terms) => Err(6),
+        terms => terms,
+    }
+}
+
 /// What is written for a book; for no bytes it may be none.
 fn back(book: &[u8], bytes: Vec<u8>) -> Vec<u8> {
     if book.is_empty() && is("empty-book-written-as-no-bytes") {
@@ -94,6 +150,9 @@ fn back(book: &[u8], bytes: Vec<u8>) -> Vec<u8> {
 
 /// Opening. No bytes may be accepted before capacity and area are tested.
 pub fn open(capacity: u32, book: &[u8], area: &mut [u8]) -> u32 {
+    if (1..=area.len()).contains(&area_length(capacity)) && terms_of(book) == Err(6) {
+        return 6;
+    }
     match call(Call::Open { capacity, book: taken(book) }, area, &mut []).refusal {
         4 | 7 if is("empty-book-before-area") && book.is_empty() => 0,
         refusal => refusal,
@@ -101,7 +160,7 @@ pub fn open(capacity: u32, book: &[u8], area: &mut [u8]) -> u32 {
 }
 
 pub fn copy_book(book: &[u8], out: &mut [u8], written: &mut u32) -> u32 {
-    let bytes = decode(OFFICE, taken(book)).map(|terms| back(book, encode(&terms)));
+    let bytes = terms_of(book).map(|terms| back(book, encode(&terms)));
     put_answer(bytes, out, ["just-enough-refused", "byte-behind"], written)
 }
 
@@ -250,7 +309,7 @@ pub fn store_book(book: &[u8], out: &mut [u8], list: &mut [u8], written: &mut u3
         }
         Err(13)
     };
-    match stored(taken(book)).and_then(put) {
+    match terms_of(book).and_then(|_| stored(taken(book))).and_then(put) {
         Ok((first, second)) => {
             (*written, *list_written) = if is("answers-in-exchange") { (second, first) } else { (first, second) };
             0
@@ -301,7 +360,7 @@ fn restored(book: &[u8], list: &[u8], room: usize) -> Result<Vec<u8>, u32> {
 }
 
 pub fn restore_book(book: &[u8], list: &[u8], out: &mut [u8], written: &mut u32) -> u32 {
-    let bytes = restored(taken(book), list, out.len()).map(|bytes| back(book, bytes));
+    let bytes = terms_of(book).and_then(|_| restored(taken(book), list, out.len())).map(|bytes| back(book, bytes));
     put_answer(bytes, out, ["just-enough-restored-refused", "byte-behind-restored"], written)
 }
 

@@ -6,7 +6,7 @@ use super::{decode, number, numbers, put, size, ROWS, TERM_ROW};
 /// The refusal, or 0, and the numbers of bytes written of the stored book and of its list.
 pub fn store(book: &[u8], out: &mut [u8], list: &mut [u8]) -> (u32, u32, u32) {
     let mut rows = [0; ROWS];
-    let count = match decode::<false>(book, &mut rows) {
+    let count = match decode(book, &mut rows) {
         Ok(count) => count,
         Err(refusal) => return (refusal, 0, 0),
     };
@@ -30,7 +30,7 @@ pub fn store(book: &[u8], out: &mut [u8], list: &mut [u8]) -> (u32, u32, u32) {
 /// The refusal, or 0, and the number of bytes written.
 pub fn restore(book: &[u8], list: &[u8], out: &mut [u8]) -> (u32, u32) {
     let mut rows = [0; ROWS];
-    let count = match decode::<false>(book, &mut rows) {
+    let count = match decode(book, &mut rows) {
         Ok(count) => count,
         Err(refusal) => return (refusal, 0),
     };

@@ -125,24 +125,22 @@ impl Area {
     /// The tests that look at one row at a time.
     fn rows_ok(&self) -> bool {
         let (n, m) = (self.terms() as u32, self.entries() as u32);
-        let mut arities = [0u8; 4097];
-        (0..n).all(|t| self.term_ok(t, &mut arities) && self.binding_ok(t, n))
+        (0..n).all(|t| self.term_ok(t) && self.binding_ok(t, n))
             && self.lines().iter().all(|&entry| entry < m)
             && (0..m as usize).all(|i| entry_ok(self.entry(i), n))
     }
 
-    fn term_ok(&self, t: u32, arities: &mut [u8; 4097]) -> bool {
+    fn term_ok(&self, t: u32) -> bool {
         let row = self.row(t);
-        let (first, arity) = (row[0] as usize, row[1]);
+        let (first, arity) = (row[0], row[1]);
         if first == 0 {
             return all_zero(row);
         }
         if first > 4096 || arity > 8 {
             return false;
         }
-        let seen = std::mem::replace(&mut arities[first], arity as u8 + 1);
         let (arguments, rest) = row[2..].split_at(arity as usize);
-        (seen == 0 || u32::from(seen) == arity + 1) && arguments.iter().all(|&argument| argument < t) && all_zero(rest)
+        arguments.iter().all(|&argument| argument < t) && all_zero(rest)
     }
 
     fn binding_ok(&self, t: u32, n: u32) -> bool {
@@ -187,11 +185,15 @@ impl Area {
             && left.iter().zip(right).zip(&row[5..13]).all(argument_ok)
     }
 
-    /// The two terms of one symbol that the sides of an entry stand for.
+    /// Whether two terms have one symbol and one arity, or both are variables.
+    fn are_alike(&self, t: u32, u: u32) -> bool {
+        self.row(t)[..2] == self.row(u)[..2]
+    }
+
+    /// The two alike terms that the sides of an entry stand for.
     pub fn common(&self, values: &Values, row: &[u32]) -> Option<(u32, u32)> {
         let (l, r) = (values.roots[row[0] as usize], values.roots[row[1] as usize]);
-        let symbol = self.symbol(l);
-        (symbol != 0 && symbol == self.symbol(r)).then_some((l, r))
+        (self.symbol(l) != 0 && self.are_alike(l, r)).then_some((l, r))
     }
 }
 
@@ -223,7 +225,7 @@ struct Classes {
 }
 
 impl Classes {
-    /// The first term before t with its symbol and arguments of the same classes, or t itself.
+    /// The first term before t that is alike and has arguments of the same classes, or t itself.
     fn of_application(&mut self, area: &Area, t: u32) -> u32 {
         let arguments = area.arguments(t);
         let mix = |hash: u32, &a: &u32| (hash.rotate_left(5) ^ self.of[a as usize]).wrapping_mul(0x9E37_79B1);
@@ -233,8 +235,8 @@ impl Classes {
                 self.slots[slot] = t as u16 + 1;
                 return t;
             };
-            let alike = |(&a, &b): (&u32, &u32)| self.of[a as usize] == self.of[b as usize];
-            if area.symbol(other) == area.symbol(t) && arguments.iter().zip(area.arguments(other)).all(alike) {
+            let same = |(&a, &b): (&u32, &u32)| self.of[a as usize] == self.of[b as usize];
+            if area.are_alike(other, t) && arguments.iter().zip(area.arguments(other)).all(same) {
                 return other;
             }
             slot = (slot + 1) % self.slots.len();

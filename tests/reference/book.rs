@@ -1,6 +1,7 @@
 //! Books and their bytes.
 
 use super::area::Limits;
+use std::collections::HashMap;
 
 #[derive(Clone, Debug, PartialEq)]
 pub enum Term {
@@ -70,11 +71,10 @@ pub fn decode_parts(limits: Limits, bytes: &[u8]) -> Result<Vec<Term>, Refused> 
     let refused = |part, left: usize| move |refusal| Refused { part, at: bytes.len() - left, refusal };
     let mut source = Source { rest: bytes };
     let count = number_of_terms(limits, &mut source).map_err(refused(Part::Count, bytes.len()))?;
-    let mut arities = [None; MAX_SYMBOL as usize + 1];
     let mut terms = Vec::with_capacity(count as usize);
     for own in 0..count {
         let left = source.rest.len();
-        terms.push(term(&mut source, own, &mut arities).map_err(refused(Part::Term, left))?);
+        terms.push(term(&mut source, own).map_err(refused(Part::Term, left))?);
     }
     check(source.rest.is_empty(), 3).map_err(refused(Part::Rest, source.rest.len()))?;
     Ok(terms)
@@ -86,8 +86,8 @@ fn number_of_terms(limits: Limits, source: &mut Source) -> Result<u32, u32> {
     Ok(count)
 }
 
-/// The term of this index, with the counts of the symbols before it.
-fn term(source: &mut Source, own: u32, arities: &mut [Option<u32>]) -> Result<Term, u32> {
+/// The term of this index.
+fn term(source: &mut Source, own: u32) -> Result<Term, u32> {
     let first = source.number()?;
     if first == 0 {
         return Ok(Term::Variable);
@@ -96,7 +96,6 @@ fn term(source: &mut Source, own: u32, arities: &mut [Option<u32>]) -> Result<Te
     check(symbol <= MAX_SYMBOL, 4)?;
     let arity = source.number()?;
     check(arity <= MAX_ARITY, 4)?;
-    check(*arities[symbol as usize].get_or_insert(arity) == arity, 6)?;
     let mut arguments = Vec::new();
     for _ in 0..arity {
         let argument = source.number()?;
@@ -104,6 +103,27 @@ fn term(source: &mut Source, own: u32, arities: &mut [Option<u32>]) -> Result<Te
         arguments.push(argument);
     }
     Ok(Term::Application { symbol, arguments })
+}
+
+/// For each symbol of a book, the arities that it occurs with: a bit for each.
+fn arities(terms: &[Term]) -> HashMap<u32, u32> {
+    let mut found = HashMap::new();
+    for term in terms {
+        if let Term::Application { symbol, arguments } = term {
+            *found.entry(*symbol).or_insert(0) |= 1 << arguments.len();
+        }
+    }
+    found
+}
+
+/// Whether a symbol of the book occurs with two arities.
+pub fn has_two_arities(terms: &[Term]) -> bool {
+    arities(terms).values().any(|bits: &u32| bits.count_ones() > 1)
+}
+
+/// Whether a symbol of the book occurs with both of these arities.
+pub fn has_arities(terms: &[Term], both: [u32; 2]) -> bool {
+    arities(terms).values().any(|bits| both.iter().all(|arity| bits >> arity & 1 == 1))
 }
 
 /// Appends one number in shortest form.

@@ -1,7 +1,6 @@
 //! Repeatable random numbers, and random books.
 
 use super::book::{encode, Term};
-use std::collections::HashMap;
 
 /// A repeatable source of numbers (SplitMix64).
 pub struct Random(pub u64);
@@ -50,20 +49,35 @@ pub fn first_seed(own: u64) -> u64 {
 
 /// A valid book of `count` terms over a random choice of symbols.
 pub fn random_book(random: &mut Random, count: usize) -> Vec<Term> {
-    let symbols = 1 + random.below(40);
-    let signature: Vec<(u32, u32)> =
-        (0..symbols).map(|_| (random.below(4096) as u32, random.below(9) as u32)).collect();
+    let mut symbols: Vec<u32> = (0..1 + random.below(40)).map(|_| random.below(4096) as u32).collect();
+    symbols.sort_unstable();
+    symbols.dedup();
+    let signature = signature(random, &symbols, 9);
     book_over(random, &signature, count)
 }
 
-/// A valid book of `count` terms over these symbols with these arities; for a symbol that is named twice the last counts.
+/// Different symbols, each with an arity below `arities`; in half of the cases most of them with others too: none, one more or less,
+/// seven and eight, or any.
+pub fn signature(random: &mut Random, symbols: &[u32], arities: u64) -> Vec<(u32, u32)> {
+    let several = random.below(2) == 0;
+    let mut signature = Vec::new();
+    for &symbol in symbols {
+        let arity = random.below(arities) as u32;
+        signature.push((symbol, arity));
+        if several {
+            let (less, more, any) = (arity.saturating_sub(1), (arity + 1).min(8), random.below(9) as u32);
+            let others = random.pick(&[[0, arity], [less, arity], [more, arity], [less, more], [7, 8], [any, arity]]);
+            signature.extend(others.map(|other| (symbol, other)));
+        }
+    }
+    signature
+}
+
+/// A valid book of `count` terms over these symbols, each with the arities that it is named with.
 pub fn book_over(random: &mut Random, signature: &[(u32, u32)], count: usize) -> Vec<Term> {
-    let arities: HashMap<u32, u32> = signature.iter().copied().collect();
-    let mut choices: Vec<(u32, u32)> = arities.into_iter().collect();
-    choices.sort_unstable();
     let mut terms = Vec::with_capacity(count);
     for own in 0..count as u64 {
-        let (symbol, arity) = random.pick(&choices);
+        let (symbol, arity) = random.pick(signature);
         if random.below(4) == 0 || (own == 0 && arity > 0) {
             terms.push(Term::Variable);
         } else {

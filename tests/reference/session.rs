@@ -24,13 +24,12 @@ pub enum End {
 
 impl End {
     /// The refusals that end a session, in words.
-    pub const WORDS: [(u32, &str); 7] = [
+    pub const WORDS: [(u32, &str); 6] = [
         (1, "the bytes end too early: within a number, before one, or before the end of the book"),
         (2, "a number not in shortest form, of more than three bytes, or above 65,535"),
         (3, "bytes after the last term of the book"),
         (4, "a number of terms, a symbol or a count out of range, or a session of more than 65,536 bytes"),
         (5, "an argument that is not lower than its term"),
-        (6, "a symbol with two counts"),
         (8, "an unknown step"),
     ];
 
@@ -52,18 +51,20 @@ impl End {
     }
 }
 
-/// A session: the text that it prints, what it says on standard error, the numbers of the steps that it takes, and how it ends: at the
-/// part of the input that begins at position `at`.
+/// A session: the text that it prints, what it says on standard error, the numbers of the steps that it takes, what its area holds in the
+/// end, and how it ends: at the part of the input that begins at position `at`.
 pub struct Session {
     pub printed: String,
     pub said: String,
     pub steps: Vec<u32>,
+    pub state: State,
     pub end: End,
     at: usize,
 }
 
 pub fn session(input: &[u8]) -> Session {
-    let mut session = Session { printed: String::new(), said: String::new(), steps: Vec::new(), end: End::Input, at: 0 };
+    let state = State::opened(CAPACITY, Vec::new());
+    let mut session = Session { printed: String::new(), said: String::new(), steps: Vec::new(), state, end: End::Input, at: 0 };
     if let Err(end) = session.run(input) {
         session.end = end;
     }
@@ -99,32 +100,38 @@ impl Session {
             self.at = input.len() - source.rest.len() + refused.at;
             End::Book(refused.part, refused.refusal)
         })?;
-        let mut state = State::opened(CAPACITY, terms);
+        self.state = State::opened(CAPACITY, terms);
         line(&mut self.printed, &[0]);
         source.rest = steps;
         while !source.rest.is_empty() {
             self.at = input.len() - source.rest.len();
-            let step = source.number().map_err(End::StepNumber)?;
-            let answer = match step {
-                1 => {
-                    let (l, r) = two(&mut source)?;
-                    state.clone().add(OFFICE, l, r).map(|(after, entry)| (after, vec![0, entry]))
-                }
-                2 => {
-                    let (v, t) = two(&mut source)?;
-                    state.clone().bind(v, t).map(|(after, turned, appended)| (after, vec![0, turned, appended]))
-                }
-                3 => Ok((state.clone(), report_numbers(&state))),
-                _ => return Err(End::UnknownStep),
-            };
-            self.steps.push(step);
-            match answer {
-                Ok((after, numbers)) => {
-                    state = after;
-                    line(&mut self.printed, &numbers);
-                }
-                Err(refusal) => line(&mut self.printed, &[refusal]),
+            self.step(&mut source)?;
+        }
+        Ok(())
+    }
+
+    /// Takes the next step and prints its line, but for a refusal that ends the session.
+    fn step(&mut self, source: &mut Source) -> Result<(), End> {
+        let step = source.number().map_err(End::StepNumber)?;
+        let answer = match step {
+            1 => {
+                let (l, r) = two(source)?;
+                self.state.clone().add(OFFICE, l, r).map(|(after, entry)| (after, vec![0, entry]))
             }
+            2 => {
+                let (v, t) = two(source)?;
+                self.state.clone().bind(v, t).map(|(after, turned, appended)| (after, vec![0, turned, appended]))
+            }
+            3 => Ok((self.state.clone(), report_numbers(&self.state))),
+            _ => return Err(End::UnknownStep),
+        };
+        self.steps.push(step);
+        match answer {
+            Ok((after, numbers)) => {
+                self.state = after;
+                line(&mut self.printed, &numbers);
+            }
+            Err(refusal) => line(&mut self.printed, &[refusal]),
         }
         Ok(())
     }

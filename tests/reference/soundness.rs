@@ -3,8 +3,8 @@
 use super::area::{read_bindings, read_terms, word, words, Limits, ENTRY_ROW, HEADER, TERM_ROW};
 use super::book::{Term, MAX_ARITY, MAX_SYMBOL};
 use super::table::lowest;
-use super::value::{common, Values};
-use std::collections::{HashMap, HashSet};
+use super::value::{common, one_symbol, Values};
+use std::collections::HashSet;
 
 /// What can be wrong with an area.
 #[derive(Clone, Copy, Debug, PartialEq)]
@@ -17,7 +17,6 @@ pub enum Fault {
     Symbol,
     Arity,
     Argument,
-    TwoArities,
     SymbolBound,
     BoundToNothing,
     Cycle,
@@ -25,6 +24,7 @@ pub enum Fault {
     PairTwice,
     HoleForCommon,
     CommonForHole,
+    CommonBySymbol,
     EntrySymbol,
     EntryArity,
     ArgumentNoEntry,
@@ -53,7 +53,6 @@ impl Fault {
         (Fault::Symbol, 3, "symbol out of range"),
         (Fault::Arity, 3, "arity out of range"),
         (Fault::Argument, 3, "argument not lower than its term"),
-        (Fault::TwoArities, 3, "symbol with two arities"),
         (Fault::SymbolBound, 4, "term with a symbol is bound"),
         (Fault::BoundToNothing, 4, "bound to no term"),
         (Fault::Cycle, 5, "value that contains itself"),
@@ -61,6 +60,7 @@ impl Fault {
         (Fault::PairTwice, 6, "two entries with one pair of terms"),
         (Fault::HoleForCommon, 7, "common entry marked a hole"),
         (Fault::CommonForHole, 7, "hole marked common"),
+        (Fault::CommonBySymbol, 7, "hole of one symbol with unlike arities, common as far as both have arguments"),
         (Fault::EntrySymbol, 7, "common entry with another symbol"),
         (Fault::EntryArity, 7, "common entry with another arity"),
         (Fault::ArgumentNoEntry, 7, "argument place names no entry"),
@@ -152,7 +152,6 @@ fn counts(limits: Limits, area: &[u8], found: &mut Faults) {
 
 /// Point 3, and of point 10 the places of the terms.
 fn terms(limits: Limits, area: &[u8], found: &mut Faults) {
-    let mut arities = HashMap::new();
     for t in 0..word(area, 1) {
         let row: [u32; TERM_ROW] = words(area, limits.term_row(t as usize));
         let (first, arity) = (row[0], row[1]);
@@ -163,7 +162,6 @@ fn terms(limits: Limits, area: &[u8], found: &mut Faults) {
         let (arguments, rest) = row[2..].split_at(arity.min(MAX_ARITY) as usize);
         found.note(Fault::Symbol, first - 1 > MAX_SYMBOL);
         found.note(Fault::Arity, arity > MAX_ARITY);
-        found.note(Fault::TwoArities, *arities.entry(first).or_insert(arity) != arity);
         found.note(Fault::Argument, arguments.iter().any(|&argument| argument >= t));
         found.note(Fault::TermPlaces, !all_zero(rest));
     }
@@ -238,6 +236,7 @@ fn meanings(limits: Limits, area: &[u8], rows: &[Row], found: &mut Faults) {
 fn kind(terms: &[Term], bindings: &[Option<u32>], values: &Values, rows: &[Row], row: &Row, found: &mut Faults) {
     match (row[2], common(terms, bindings, row[0], row[1])) {
         (0, Some(_)) => found.note(Fault::HoleForCommon, true),
+        (1, None) if is_common_by_symbol(terms, bindings, values, rows, row) => found.note(Fault::CommonBySymbol, true),
         (1, None) => found.note(Fault::CommonForHole, true),
         (1, Some((symbol, left, right))) => {
             found.note(Fault::EntrySymbol, row[3] != symbol);
@@ -251,6 +250,18 @@ fn kind(terms: &[Term], bindings: &[Option<u32>], values: &Values, rows: &[Row],
         }
         _ => {}
     }
+}
+
+/// Whether a hole of one symbol with unlike arities has that symbol, either arity, and arguments of the right values as far as both
+/// sides have some: what a test by the symbol alone would take for common.
+fn is_common_by_symbol(terms: &[Term], bindings: &[Option<u32>], values: &Values, rows: &[Row], row: &Row) -> bool {
+    let Some((symbol, left, right)) = one_symbol(terms, bindings, row[0], row[1]) else {
+        return false;
+    };
+    let is_named = |((&l, &r), &place): ((&u32, &u32), &u32)| {
+        rows.get(place as usize).is_some_and(|named| values.pair(named[0], named[1]) == values.pair(l, r))
+    };
+    row[3] == symbol && [left.len(), right.len()].contains(&(row[4] as usize)) && left.iter().zip(right).zip(&row[5..13]).all(is_named)
 }
 
 fn all_zero(words: &[u32]) -> bool {

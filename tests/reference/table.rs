@@ -2,7 +2,7 @@
 
 use super::area::Limits;
 use super::book::{check, Term};
-use super::value::{common, Values};
+use super::value::{common, one_symbol, Values};
 use std::collections::HashMap;
 
 /// An entry; `common` is the symbol and the argument entries, or none for a hole.
@@ -63,7 +63,7 @@ impl State {
         Ok(own)
     }
 
-    /// Saturation: every hole whose sides stand for terms of one symbol becomes common.
+    /// Saturation: every hole whose sides stand for alike terms becomes common.
     fn walk(&mut self, values: &Values, found: &mut Lowest) -> Result<(), u32> {
         let mut i = 0;
         while i < self.entries.len() {
@@ -87,6 +87,12 @@ impl State {
         }
         self.entries[i].common = Some((symbol, arguments));
         Ok(())
+    }
+
+    /// The arities of the terms that the sides of an entry stand for, where these have one symbol and unlike arities.
+    pub fn unlike_arities(&self, entry: &Entry) -> Option<[usize; 2]> {
+        let (_, left, right) = one_symbol(&self.terms, &self.bindings, entry.left, entry.right)?;
+        (left.len() != right.len()).then_some([left.len(), right.len()])
     }
 
     fn has_terms(&self, l: u32, r: u32) -> bool {

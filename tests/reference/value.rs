@@ -119,8 +119,13 @@ pub fn stands_for(bindings: &[Option<u32>], mut t: u32) -> u32 {
     t
 }
 
-/// The one symbol that both terms stand for, with the arguments of each as they are written; none where there is no such symbol.
+/// The symbol of the terms that both sides stand for, with the arguments of each as they are written; none where they are not alike.
 pub fn common<'a>(terms: &'a [Term], bindings: &[Option<u32>], l: u32, r: u32) -> Option<(u32, &'a [u32], &'a [u32])> {
+    one_symbol(terms, bindings, l, r).filter(|(_, left, right)| left.len() == right.len())
+}
+
+/// The same where they have one symbol, with one arity or with two.
+pub fn one_symbol<'a>(terms: &'a [Term], bindings: &[Option<u32>], l: u32, r: u32) -> Option<(u32, &'a [u32], &'a [u32])> {
     let left = &terms[stands_for(bindings, l) as usize];
     let right = &terms[stands_for(bindings, r) as usize];
     match (left, right) {

@@ -1,6 +1,5 @@
 pub mod Arguments
 pub mod Book
-pub mod Counts
 pub mod Outcome
 pub mod Parsing
 pub mod Term

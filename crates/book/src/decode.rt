@@ -24,11 +24,10 @@ fn read_terms(bytes: &[u8], at: usize, count: u32, rows: &mut [u32]) -> Advance
     requires { ⌜ (at ≤ length (now bytes)) × (termWords * count ≤ length (now rows)) × (now rows ≡ replicate (length (now rows)) 0) ⌝ }
     ensures { λ r. ⌜ AdvanceOf (now (bytes .entry)) (parseTerms count [] (drop at (now (bytes .entry)))) (BookIn count (length (now (rows .entry))) (now (rows .exit))) r ⌝ }
 {
-    let mut counts = [0u8; layout::limits::SYMBOLS];
     let mut next = at;
     let mut t = 0;
     while t < count {
-        match crate::reader::read_term(bytes, next, t, &mut counts, rows) {
+        match crate::reader::read_term(bytes, next, t, rows) {
             Advance::Next(after) => next = after,
             Advance::Refused(n) => return Advance::Refused(n),
         }

@@ -1,20 +1,20 @@
-// A number, and the parts of a term in document 01's order: symbol (4), count (4), rule 6, arguments (5). Each is read at a position
-// of a book's bytes, and gives the position behind it, or a refusal (specs/parse/Parts.antt). The parts are the work of the reader of
+// A number, and the parts of a term in document 01's order: symbol (4), count (4), arguments (5). Each is read at a position of a book's
+// bytes, and gives the position behind it, or a refusal (specs/parse/Parts.antt). The parts are the work of the reader of
 // module reader.
 
 ghost use mathlib.Core.Path.{_≡_};
-ghost use Prim.Native.Nat.{suc, _+_, _*_, _≤_};
+ghost use Prim.Native.Nat.{_+_, _*_, _≤_};
 ghost use lib.ListN.{length, drop};
-ghost use Rattle.model.specs.Limits.{maxArity, maxSymbol};
+ghost use Rattle.model.specs.Limits.{maxArity};
 ghost use Rattle.model.specs.Area.{termWords};
 ghost use Rattle.model.specs.BookBytes.{andThen, parseArguments};
 ghost use Rattle.book.specs.parse.Below.{partAt};
-ghost use Rattle.book.specs.parse.Parts.{refusedAt, advanceOf, headRead, parseNodeOf, AdvanceOf, SymbolRead, CountRead, ArgumentsIn, RowIn};
+ghost use Rattle.book.specs.parse.Parts.{refusedAt, advanceOf, headRead, parseNodeOf, AdvanceOf, SymbolRead, CountRead, HeadRead, ArgumentsIn, RowIn};
 
 // A count of arguments, and a term's first number (0, or its symbol plus 1), are below these.
 const COUNTS: u32 = layout::limits::MAX_ARITY as u32 + 1;
 
-const FIRST_NUMBERS: u32 = layout::limits::SYMBOLS as u32 + 1;
+const FIRST_NUMBERS: u32 = layout::limits::MAX_SYMBOL as u32 + 2;
 
 // A number and the position after it, or a refusal.
 pub enum Part {
@@ -67,7 +67,7 @@ fn refused(refusal: u32) -> Position
 }
 
 // The first number of a term that begins at `at`.
-pub fn symbol_at(bytes: &[u8], at: Position) -> Position
+fn symbol_at(bytes: &[u8], at: Position) -> Position
     ensures { λ r. ⌜ SymbolRead (now (bytes .entry)) (at .next) r ⌝ }
 {
     match read_below(bytes, at.next, FIRST_NUMBERS, 4) {
@@ -81,10 +81,10 @@ pub fn symbol_at(bytes: &[u8], at: Position) -> Position
     }
 }
 
-// The count of a term whose first number was read, noted for its symbol. A variable has none.
-pub fn count_at(bytes: &[u8], at: Position, counts: &mut [u8; layout::limits::SYMBOLS]) -> Position
-    requires { ⌜ (at .next ≤ length (now bytes)) × (at .first ≤ suc maxSymbol) ⌝ }
-    ensures { λ r. ⌜ CountRead (now (bytes .entry)) (now (counts .entry)) (now (counts .exit)) at r ⌝ }
+// The count of a term whose first number was read. A variable has none.
+fn count_at(bytes: &[u8], at: Position) -> Position
+    requires { ⌜ at .next ≤ length (now bytes) ⌝ }
+    ensures { λ r. ⌜ CountRead (now (bytes .entry)) at r ⌝ }
 {
     if at.refusal != 0 {
         return refused(at.refusal);
@@ -98,19 +98,21 @@ pub fn count_at(bytes: &[u8], at: Position, counts: &mut [u8; layout::limits::SY
         };
     }
     match read_below(bytes, at.next, COUNTS, 4) {
-        Part::Value { value, next } => {
-            if !layout::limits::note_count(counts, (at.first - 1) as usize, value as u8) {
-                return refused(6);
-            }
-            Position {
-                next,
-                refusal: 0,
-                first: at.first,
-                count: value,
-            }
-        }
+        Part::Value { value, next } => Position {
+            next,
+            refusal: 0,
+            first: at.first,
+            count: value,
+        },
         Part::Refused(n) => refused(n),
     }
+}
+
+// The head of a term that begins at `at`: its first number, and its count where it has one.
+pub fn head_at(bytes: &[u8], at: Position) -> Position
+    ensures { λ r. ⌜ HeadRead (now (bytes .entry)) (at .next) r ⌝ }
+{
+    count_at(bytes, symbol_at(bytes, at))
 }
 
 // The arguments of term `t`, as many as its count, into its row.

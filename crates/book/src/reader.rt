@@ -4,12 +4,12 @@
 // above them, has plain parameters, so its callers need no walk.
 
 ghost use mathlib.Core.Path.{_≡_};
-ghost use Prim.Native.Nat.{suc, _+_, _*_, _≤_};
+ghost use Prim.Native.Nat.{_+_, _*_, _≤_};
 ghost use lib.ListN.{length, drop};
-ghost use Rattle.model.specs.Limits.{maxArity, maxSymbol};
+ghost use Rattle.model.specs.Limits.{maxArity};
 ghost use Rattle.model.specs.Area.{termWords};
-ghost use Rattle.model.specs.BookBytes.{andThen};
-ghost use Rattle.book.specs.parse.Parts.{startAt, advanceOf, headRead, parseNodeOf, parseTerm, AdvanceOf, SymbolRead, CountRead, RowIn, TermIn};
+ghost use Rattle.model.specs.BookBytes.{andThen, parseNumber, parseNode};
+ghost use Rattle.book.specs.parse.Parts.{startAt, advanceOf, headRead, parseNodeOf, AdvanceOf, HeadRead, RowIn, TermIn};
 use crate::parse::Advance;
 use crate::parse::Position;
 
@@ -34,24 +34,13 @@ fn new<'a>(src: &'a [u8], next: usize) -> Reader<'a>
     }
 }
 
-// The reader behind the term's first number: symbol (4).
-fn symbol<'a>(r: Reader<'a>) -> Reader<'a>
-    ensures { λ q. ⌜ (q .src ≡ r .entry .src) × SymbolRead (now (r .entry .src)) (r .entry .at .next) (q .at) ⌝ }
+// The reader behind the term's head: symbol (4), count (4).
+fn head<'a>(r: Reader<'a>) -> Reader<'a>
+    ensures { λ q. ⌜ (q .src ≡ r .entry .src) × HeadRead (now (r .entry .src)) (r .entry .at .next) (q .at) ⌝ }
 {
     Reader {
         src: r.src,
-        at: crate::parse::symbol_at(r.src, r.at),
-    }
-}
-
-// The reader behind its count: count (4), rule 6.
-fn count<'a>(r: Reader<'a>, counts: &mut [u8; layout::limits::SYMBOLS]) -> Reader<'a>
-    requires { ⌜ (r .at .next ≤ length (now (r .src))) × (r .at .first ≤ suc maxSymbol) ⌝ }
-    ensures { λ q. ⌜ (q .src ≡ r .entry .src) × CountRead (now (r .entry .src)) (now (counts .entry)) (now (counts .exit)) (r .entry .at) (q .at) ⌝ }
-{
-    Reader {
-        src: r.src,
-        at: crate::parse::count_at(r.src, r.at, counts),
+        at: crate::parse::head_at(r.src, r.at),
     }
 }
 
@@ -67,16 +56,10 @@ fn arguments<'a>(r: Reader<'a>, t: u32, rows: &mut [u32]) -> Reader<'a>
 }
 
 // Term `t`, which begins at position `at`, into its row, which stays as it is where the term is a variable.
-pub fn read_term(
-    bytes: &[u8],
-    at: usize,
-    t: u32,
-    counts: &mut [u8; layout::limits::SYMBOLS],
-    rows: &mut [u32],
-) -> Advance
+pub fn read_term(bytes: &[u8], at: usize, t: u32, rows: &mut [u32]) -> Advance
     requires { ⌜ termWords * t + termWords ≤ length (now rows) ⌝ }
-    ensures { λ r. ⌜ AdvanceOf (now (bytes .entry)) (parseTerm (now (counts .entry)) t (drop at (now (bytes .entry)))) (TermIn t (now (counts .entry)) (now (counts .exit)) (now (rows .entry)) (now (rows .exit))) r ⌝ }
+    ensures { λ r. ⌜ AdvanceOf (now (bytes .entry)) (andThen (parseNumber (drop at (now (bytes .entry)))) (parseNode t)) (TermIn t (now (rows .entry)) (now (rows .exit))) r ⌝ }
 {
-    let r = arguments(count(symbol(new(bytes, at)), counts), t, rows);
+    let r = arguments(head(new(bytes, at)), t, rows);
     crate::parse::ended(r.at)
 }

@@ -18,11 +18,10 @@ fn terms_read_to(bytes: &[u8], at: usize, count: u32, rows: &mut [u32]) -> usize
     ensures unread { λ r. ⌜ unreadTerms count [] (drop at (now (bytes .entry))) ≡ drop r (now (bytes .entry)) ⌝ }
     ensures within { λ r. ⌜ r ≤ length (now (bytes .entry)) ⌝ }
 {
-    let mut counts = [0u8; layout::limits::SYMBOLS];
     let mut next = at;
     let mut t = 0;
     while t < count {
-        match crate::reader::read_term(bytes, next, t, &mut counts, rows) {
+        match crate::reader::read_term(bytes, next, t, rows) {
             Advance::Next(after) => next = after,
             Advance::Refused(n) => return next,
         }

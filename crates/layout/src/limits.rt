@@ -2,23 +2,19 @@
 // Only crate `office` and the session program name the office's; functions below take the limits as parameters.
 
 ghost use mathlib.Core.Path.{_≡_};
-ghost use Prim.Native.Nat.{suc, _*_, _<_, _≤_};
-ghost use lib.ListN.{length, getD, set};
-ghost use Rattle.model.specs.Limits.{maxArity, maxSymbol};
+ghost use Prim.Native.Nat.{_+_, _*_, _≤_};
+ghost use lib.ListN.{length};
 ghost use Rattle.model.specs.Term as Term;
 ghost use Rattle.model.specs.Area.{termWords};
-ghost use Rattle.layout.specs.limits.Counts.{fitsEntry};
-ghost use Rattle.layout.specs.limits.Rows.{nodeOf};
+ghost use Rattle.layout.specs.limits.Rows.{at, nodeOf};
 
 // Bytes in a word.
 pub const WORD_BYTES: usize = 4;
 
-// The most arguments of a symbol, the largest symbol, and how many symbols there are.
+// The most arguments of a symbol, and the largest symbol.
 pub const MAX_ARITY: usize = 8;
 
 pub const MAX_SYMBOL: usize = 4095;
-
-pub const SYMBOLS: usize = MAX_SYMBOL + 1;
 
 // Words in the header, in a term's row and in an entry's row.
 pub const HEADER_WORDS: usize = 4;
@@ -50,30 +46,20 @@ pub const OFFICE: Limits = Limits {
 // The words of the rows of the longest book.
 pub const ROWS: usize = TERM_WORDS * OFFICE_TERMS;
 
-// Notes that symbol `s` has `count` arguments, and says whether no other count was noted before. (Where one was, what was
-// noted last stands, and the table is of no use any more.)
-pub fn note_count(counts: &mut [u8; SYMBOLS], s: usize, count: u8) -> bool
-    requires { ⌜ (s ≤ maxSymbol) × (count ≤ maxArity) ⌝ }
-    ensures fits { λ r. ⌜ r ≡ fitsEntry (getD (now (counts .entry)) s 0) count ⌝ }
-    ensures noted { λ r. ⌜ now (counts .exit) ≡ set (now (counts .entry)) s (suc count) ⌝ }
-{
-    let seen = counts[s];
-    let note = count + 1;
-    counts[s] = note;
-    if seen == 0 {
-        return true;
-    }
-    seen == note
-}
-
-// Whether the terms in rows `l` and `r` are applications of one symbol.
+// Whether the terms in rows `l` and `r` are applications of one symbol to as many arguments.
 pub fn alike(rows: &[u32], l: usize, r: usize) -> bool
-    requires { ⌜ (termWords * l < length (now rows)) × (termWords * r < length (now rows)) ⌝ }
+    requires left { ⌜ termWords * l + 2 + at (now rows) (termWords * l + 1) ≤ length (now rows) ⌝ }
+    requires right { ⌜ termWords * r + 2 + at (now rows) (termWords * r + 1) ≤ length (now rows) ⌝ }
     ensures { λ x. ⌜ x ≡ Term.alike (nodeOf (now (rows .entry)) l) (nodeOf (now (rows .entry)) r) ⌝ }
 {
-    let symbol = rows[TERM_WORDS * l];
+    let left = TERM_WORDS * l;
+    let symbol = rows[left];
     if symbol == 0 {
         return false;
     }
-    symbol == rows[TERM_WORDS * r]
+    let right = TERM_WORDS * r;
+    if symbol != rows[right] {
+        return false;
+    }
+    rows[left + 1] == rows[right + 1]
 }

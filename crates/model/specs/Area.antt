@@ -11,7 +11,6 @@ use Rattle.model.specs.Lists.{all, from, concatMap, isEmpty, eqNumbers, 
 use Rattle.model.specs.Term.{Node, var, app, symbol, arguments, alike, Book, Bindings, eqTree, val, root, acyclic}
 use Rattle.model.specs.Table.{Kind, hole, common, Entry, Table, entry, holds, entryOf}
 use Rattle.model.specs.Step.{State}
-use Rattle.model.specs.BookBytes.{arityFits}
 
 -- LAYOUT. An area is a run of words, each of `wordSize` bytes, lowest byte first.
 abbrev pub wordSize : ℕ
@@ -121,11 +120,10 @@ rangesOk lim s =
     eqb (length (s .bound)) (length (s .book)) && leb (length (s .entries)) (s .capacity) &&
     leb (length (s .lines)) (lim .maxLines)
 
--- Node n as term t obeys the rules of terms: symbol, count and arguments in range, one count for a symbol.
-unfoldable pub nodeOk : Book → ℕ → Node → Bool
-nodeOk b t var = true
-nodeOk b t (app s args) =
-    leb s maxSymbol && leb (length args) maxArity && all (λ a. ltb a t) args && all (arityFits s (length args)) b
+-- Node n as term t obeys the rules of terms: symbol, count and arguments in range.
+unfoldable pub nodeOk : ℕ → Node → Bool
+nodeOk t var = true
+nodeOk t (app s args) = leb s maxSymbol && leb (length args) maxArity && all (λ a. ltb a t) args
 
 -- Only variables are bound, and to terms.
 unfoldable pub bindingOk : Book → Node → Option ℕ → Bool
@@ -134,7 +132,7 @@ bindingOk b var (some t) = ltb t (length b)
 bindingOk b (app s args) (some t) = false
 
 unfoldable pub termsOk : Book → Bindings → Bool
-termsOk b β = all (λ t. nodeOk b t (getD b t var) && bindingOk b (getD b t var) (getD β t none)) (from 0 (length b))
+termsOk b β = all (λ t. nodeOk t (getD b t var) && bindingOk b (getD b t var) (getD β t none)) (from 0 (length b))
 
 module _ (b : Book) (β : Bindings) (es : Table) where
   -- Argument entries exist and have the values of the argument pairs, one for one.
@@ -144,7 +142,7 @@ module _ (b : Book) (β : Bindings) (es : Table) where
   argumentsOk (i ∷ is) (l ∷ ls) [] = false
   argumentsOk (i ∷ is) (l ∷ ls) (r ∷ rs) = ltb i (length es) && holds b β l r (entry es i) && argumentsOk is ls rs
 
-  -- Common exactly where both sides stand for terms of one symbol, and then with that symbol and those arguments.
+  -- Common exactly where both sides stand for terms of one symbol and one count, and then with that symbol and those arguments.
   unfoldable pub kindOk : Kind → Node → Node → Bool
   kindOk hole l r = not (alike l r)
   kindOk (common s args) l r = alike l r && eqb s (symbol l) && argumentsOk args (arguments l) (arguments r)

@@ -1,13 +1,13 @@
 -- A book's bytes: decoding with its refusals, and encoding (document 01, "Bytes" and "Turned down"). Assumes nothing:
 -- these are definitions.
 use mathlib.Core.List.{List, [], _∷_, _++_}
-use mathlib.Core.Bool.{Bool, true, false, cond}
+use mathlib.Core.Bool.{Bool, true, false}
 use Prim.Native.Nat.{ℕ, zero, suc}
 use lib.ListN.{length}
-use lib.Dec.{eqb, ltb, leb}
+use lib.Dec.{ltb, leb}
 use Rattle.leb128.specs.Number.{maxGroups, maxNumber, Read, number, cut, invalid, read}
 use Rattle.model.specs.Limits.{Limits, maxArity, maxSymbol}
-use Rattle.model.specs.Lists.{all, concatMap, isEmpty}
+use Rattle.model.specs.Lists.{concatMap, isEmpty}
 use Rattle.model.specs.Term.{Node, var, app, Book}
 use Rattle.model.specs.Report.{numberBytes}
 
@@ -34,11 +34,6 @@ fromRead invalid = unparsed 2
 unfoldable pub parseNumber : List ℕ → Parsed ℕ
 parseNumber bytes = fromRead (read maxGroups maxNumber bytes)
 
--- Whether a node agrees with the symbol s having c arguments: a symbol has one count throughout a book.
-unfoldable pub arityFits : ℕ → ℕ → Node → Bool
-arityFits s c var = true
-arityFits s c (app s′ args) = cond (eqb s s′) (eqb c (length args)) true
-
 -- c arguments of term t: each is lower than t, else 5.
 unfoldable pub parseArguments : ℕ → ℕ → List ℕ → Parsed (List ℕ)
 parseArguments t zero bytes = parsed [] bytes
@@ -47,26 +42,25 @@ parseArguments t (suc c) bytes =
     need (ltb a t) 5
     (andThen (parseArguments t c rest) (λ args rest′. parsed (a ∷ args) rest′)))
 
--- The term of symbol s after the terms before it: symbol (4), count (4), one count for a symbol (6), arguments (5).
-unfoldable pub parseApp : Book → ℕ → List ℕ → Parsed Node
-parseApp before s bytes =
+-- Term t of symbol s: symbol (4), count (4), arguments (5).
+unfoldable pub parseApp : ℕ → ℕ → List ℕ → Parsed Node
+parseApp t s bytes =
     need (leb s maxSymbol) 4
     (andThen (parseNumber bytes) (λ c rest.
     need (leb c maxArity) 4
-    (need (all (arityFits s c) before) 6
-    (andThen (parseArguments (length before) c rest) (λ args rest′. parsed (app s args) rest′)))))
+    (andThen (parseArguments t c rest) (λ args rest′. parsed (app s args) rest′))))
 
 -- A term's first number is 0 for a variable, else its symbol plus 1.
-unfoldable pub parseNode : Book → ℕ → List ℕ → Parsed Node
-parseNode before zero bytes = parsed var bytes
-parseNode before (suc s) bytes = parseApp before s bytes
+unfoldable pub parseNode : ℕ → ℕ → List ℕ → Parsed Node
+parseNode t zero bytes = parsed var bytes
+parseNode t (suc s) bytes = parseApp t s bytes
 
 -- k terms more, after those before them.
 unfoldable pub parseTerms : ℕ → Book → List ℕ → Parsed Book
 parseTerms zero before bytes = parsed before bytes
 parseTerms (suc k) before bytes =
     andThen (parseNumber bytes) (λ tag rest.
-    andThen (parseNode before tag rest) (λ n rest′.
+    andThen (parseNode (length before) tag rest) (λ n rest′.
     parseTerms k (before ++ n ∷ []) rest′))
 
 -- A book as it is written: the number of terms (4), the terms, and nothing after them (3).

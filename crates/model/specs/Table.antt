@@ -61,7 +61,7 @@ module _ (b : Book) (β : Bindings) where
       let args = pairwise (entryOf es′) (arguments l) (arguments r) in
       set es′ i (record { left = e .left; right = e .right; kind = common (symbol l) args; sameAs = e .sameAs })
 
-  -- A hole whose sides stand for terms of one symbol turns common; any other entry stays.
+  -- A hole whose sides stand for terms of one symbol and one count turns common; any other entry stays.
   unfoldable pub visit : Table → ℕ → Table
   visit es i =
       let e = entry es i in

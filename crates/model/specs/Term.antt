@@ -21,11 +21,12 @@ unfoldable pub arguments : Node → List ℕ
 arguments var = []
 arguments (app s args) = args
 
--- Whether two nodes are applications of one symbol: what makes a pair of terms common.
+-- Whether two nodes are applications of one symbol to as many arguments: what makes a pair of terms common (document 02, request 3). A
+-- symbol may stand over one argument here and over two there; such nodes are unlike.
 unfoldable pub alike : Node → Node → Bool
 alike var n = false
 alike (app s args) var = false
-alike (app s args) (app s′ args′) = eqb s s′
+alike (app s args) (app s′ args′) = eqb s s′ && eqb (length args) (length args′)
 
 -- A book: the node of term t stands at place t.
 abbrev pub Book : Type 0
@@ -44,6 +45,11 @@ mutual
   pub data Trees : Type 0 where
     nil : Trees
     more : Tree → Trees → Trees
+
+-- how many there are
+unfoldable pub count : Trees → ℕ
+count nil = 0
+count (more t ts) = suc (count ts)
 
 unfoldable pub trees : (ℕ → Tree) → List ℕ → Trees
 trees f [] = nil

@@ -40,7 +40,6 @@ fn put_words(line: &mut [u8], at: usize, refusal: u32) -> usize
             b"a number of terms, a symbol or a count out of range, or a session of more than 65,536 bytes",
         ),
         5 => put_bytes(line, at, b"an argument that is not lower than its term"),
-        6 => put_bytes(line, at, b"a symbol with two counts"),
         8 => put_bytes(line, at, b"an unknown step"),
         _ => at,
     }

@@ -1,4 +1,2 @@
-pub mod Arity
 pub mod Bindings
 pub mod TermRow
-pub mod TermRows

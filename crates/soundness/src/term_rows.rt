@@ -4,16 +4,13 @@
 ghost use mathlib.Core.Path.{_≡_};
 ghost use Prim.Native.Nat.{_+_, _*_, _<_, _≤_};
 ghost use lib.ListN.{length};
-ghost use lib.Dec.{T};
 ghost use Rattle.model.specs.Area.{termWords, bindingOk};
 ghost use Rattle.layout.specs.limits.Rows.{nodeOf, bookOf, bindingOf};
-ghost use Rattle.layout.specs.limits.Counts.{nodeFits, noted};
 ghost use Rattle.soundness.specs.rows.RowTests.{termRowOk, termRowsOk, bindingsOk};
 use crate::rows::all_below;
 use crate::rows::zero_from;
 use layout::limits::MAX_ARITY;
 use layout::limits::MAX_SYMBOL;
-use layout::limits::SYMBOLS;
 use layout::limits::TERM_WORDS;
 
 // Whether row `t` is a term's row, with its numbers in their ranges.
@@ -42,32 +39,14 @@ fn term_row_ok(rows: &[u32], t: usize) -> bool
     all_below(&rows[behind..end], 1)
 }
 
-// Notes the count of the term in row `t`, which is a term's row, and says whether it agrees with those noted before.
-fn note_term(rows: &[u32], t: usize, counts: &mut [u8; SYMBOLS]) -> bool
-    requires { ⌜ (termWords * t + termWords ≤ length (now rows)) × T (termRowOk (now rows) t) ⌝ }
-    ensures fits { λ r. ⌜ r ≡ nodeFits (now (counts .entry)) (nodeOf (now (rows .entry)) t) ⌝ }
-    ensures noted { λ r. ⌜ now (counts .exit) ≡ noted (nodeOf (now (rows .entry)) t) (now (counts .entry)) ⌝ }
-{
-    let start = TERM_WORDS * t;
-    let tag = rows[start];
-    if tag == 0 {
-        return true;
-    }
-    layout::limits::note_count(counts, (tag - 1) as usize, rows[start + 1] as u8)
-}
-
-// Whether the rows are those of `n` terms, a symbol has one count in them, and the words behind them are 0.
+// Whether the rows are those of `n` terms, and the words behind them are 0.
 pub fn term_rows_ok(rows: &[u32], n: usize) -> bool
     requires { ⌜ termWords * n ≤ length (now rows) ⌝ }
     ensures { λ r. ⌜ r ≡ termRowsOk (now (rows .entry)) n ⌝ }
 {
-    let mut counts = [0u8; SYMBOLS];
     let mut t = 0;
     while t < n {
         if !term_row_ok(rows, t) {
-            return false;
-        }
-        if !note_term(rows, t, &mut counts) {
             return false;
         }
         t += 1;

@@ -11,7 +11,7 @@ use Rattle.model.specs.Term.{var, Book, Bindings, alike, root, occurs, val}
 use Rattle.model.specs.Table.{isHole, Table, entry, place, walk}
 use Rattle.model.specs.Step.{State, refused, addLine, bind}
 
--- No entry marked open has sides that stand for terms of one symbol: there is nothing left to turn.
+-- No entry marked open has sides that stand for terms of one symbol and one count: there is nothing left to turn.
 abbrev pub Ended : Book → Bindings → Table → Type 0
 Ended b β es = (i : ℕ) → i < length es
     → isHole (entry es i .kind) && alike (root b β (entry es i .left)) (root b β (entry es i .right)) ≡ false

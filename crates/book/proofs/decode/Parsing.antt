@@ -2,13 +2,16 @@
 use mathlib.Core.Path.{_≡_, refl, sym, _∙_}
 use mathlib.Core.List.{List, [], _∷_, _++_, append-nil}
 use mathlib.Core.Bool.{Bool, true, false}
-use Prim.Native.Nat.{ℕ, suc}
+use Prim.Native.Nat.{ℕ, zero, suc, _≤_}
 use native.Mathlib.Omega.{arith}
-use borrow.Author.Tests.{leb-true, leb-false, lt-ltb, le-ltb}
+use borrow.Author.Tests.{leb-true, leb-false, lt-ltb, le-ltb, le-leb}
 use lib.Seq.{append-snoc}
 use lib.Dec.{ltb, leb}
-use Rattle.model.specs.BookBytes.{Parsed, parsed, unparsed, andThen, need, parseNumber, parseArguments}
+use Rattle.model.specs.Limits.{maxArity, maxSymbol}
+use Rattle.model.specs.Term.{Node}
+use Rattle.model.specs.BookBytes.{Parsed, parsed, unparsed, andThen, need, parseNumber, parseArguments, parseApp, parseNode}
 use Rattle.book.specs.parse.Below.{parseBelow}
+use Rattle.book.specs.parse.Parts.{parseCount, parseHead, nodeFrom, parseNodeOf}
 use Rattle.book.proofs.reader.Below.{below-then}
 
 -- ---- one part after another
@@ -48,6 +51,40 @@ pub up-to-then : {A : Type 0} (limit k : ℕ) (bytes : List ℕ) (f : ℕ → Li
     → andThen (parseNumber bytes) (λ n rest. need (leb n limit) k (f n rest)) ≡ andThen (parseBelow (suc limit) k bytes) f
 up-to-then limit k bytes f =
     then-alike (parseNumber bytes) _ _ (λ n rest. rw (leb-ltb n limit)) ∙ below-then (suc limit) k bytes f
+
+-- ---- a term
+
+module _ (t : ℕ) where
+  -- from its first number on
+  parseTagged : ℕ → List ℕ → Parsed Node
+  parseTagged tag rest = andThen (parseCount tag rest) (parseNodeOf t)
+
+  -- from its count on
+  counted-parsed : (s : ℕ) (bytes : List ℕ) → s ≤ maxSymbol → parseApp t s bytes ≡ parseTagged (suc s) bytes
+  unfolding parseApp parseTagged parseCount nodeFrom andThen need
+  counted-parsed s bytes l =
+      rw (le-leb s maxSymbol l)
+      (up-to-then maxArity 4 bytes _ ∙ sym (then-then (parseBelow (suc maxArity) 4 bytes) (λ c rest. parsed (suc s, c) rest) (parseNodeOf t)))
+
+  tagged-parsed : (tag : ℕ) (rest : List ℕ) → parseNode t tag rest ≡ andThen (need (ltb tag (suc (suc maxSymbol))) 4 (parsed tag rest)) parseTagged
+  unfolding parseNode parseTagged parseCount nodeFrom parseApp andThen need
+  tagged-parsed zero rest = refl
+  tagged-parsed (suc s) rest = go (leb s maxSymbol) refl
+    where
+      go : (b : Bool) → leb s maxSymbol ≡ b → parseApp t s rest ≡ andThen (need (ltb (suc s) (suc (suc maxSymbol))) 4 (parsed (suc s) rest)) parseTagged
+      go true e =
+          let l : s ≤ maxSymbol = leb-true s maxSymbol e in
+          rw (lt-ltb (suc s) (suc (suc maxSymbol)) (omega arith)) (counted-parsed s rest l)
+      go false e = rw (le-ltb (suc s) (suc (suc maxSymbol)) (omega (arith, leb-false s maxSymbol e)), e)
+
+  -- its parts make the term of the model
+  pub parts-parsed : (bytes : List ℕ)
+      → andThen (parseHead bytes) (parseNodeOf t) ≡ andThen (parseNumber bytes) (parseNode t)
+  unfolding parseHead parseBelow parseTagged
+  parts-parsed bytes =
+      then-then (parseBelow (suc (suc maxSymbol)) 4 bytes) parseCount (parseNodeOf t)
+      ∙ then-then (parseNumber bytes) (λ n rest. need (ltb n (suc (suc maxSymbol))) 4 (parsed n rest)) parseTagged
+      ∙ then-alike (parseNumber bytes) _ _ (λ tag rest. sym (tagged-parsed tag rest))
 
 -- ---- arguments
 

@@ -12,7 +12,6 @@ use Rattle.model.specs.Term.{Node, var, app, Book}
 use Rattle.model.specs.Area.{termWords, nodeWords}
 use Rattle.theory.proofs.Lists.Laws.{concatMap-append}
 use Rattle.theory.proofs.Lists.Rows.{length-padded}
-use Rattle.layout.specs.limits.Counts.{Suits}
 use Rattle.book.specs.decode.Rows.{bookRows}
 use Rattle.book.specs.parse.Parts.{nodeRow}
 
@@ -50,12 +49,6 @@ row-of : (x : Node) → nodeWords x ≡ padded termWords (nodeRow x)
 unfolding nodeWords nodeRow padded
 row-of var = refl
 row-of (app s args) = let e : termWords - suc (suc (length args)) ≡ maxArity - length args = omega arith in rw e
-
--- the numbers of a node that may follow fill no more than its row
-pub few-numbers : (counts : List ℕ) (x : Node) → Suits counts x → length (nodeRow x) ≤ termWords
-unfolding nodeRow
-few-numbers counts var h = omega arith
-few-numbers counts (app s args) h = omega (arith, h .1)
 
 module _ (b : Book) (x : Node) (few : length (nodeRow x) ≤ termWords) where
   -- the words of a book with one more term

@@ -12,7 +12,7 @@ use Rattle.leb128.specs.Answer.{placed, readAt}
 use Rattle.model.specs.Limits.{Limits, maxArity, maxSymbol}
 use Rattle.model.specs.Lists.{all, isEmpty}
 use Rattle.model.specs.Term.{Node, Book}
-use Rattle.model.specs.BookBytes.{Parsed, parsed, unparsed, andThen, need, fromRead, parseNumber, arityFits, parseArguments, parseApp, parseNode, parseTerms, parseBook}
+use Rattle.model.specs.BookBytes.{Parsed, parsed, unparsed, andThen, need, fromRead, parseNumber, parseArguments, parseApp, parseNode, parseTerms, parseBook}
 use Rattle.theory.proofs.Book.Gives.{Gives, need-gives, andThen-gives}
 use Rattle.book.specs.parse.Below.{parseBelow}
 use Rattle.book.specs.unread.Unread.{orLeft, unreadTerms, numberOfTerms, unreadBook, readTo, UnreadIsLeft, AcceptedIsRead}
@@ -48,15 +48,14 @@ module _ (bytes : List ℕ) where
       andThen-gives _ _ (parseArguments t c rest) _ (arguments-left t c rest m) λ args rest′ n. n
 
   -- behind a term
-  node-left : (before : Book) (tag : ℕ) (mid : List ℕ) → Left bytes mid → Gives (parseNode before tag mid) (λ n rest. Left bytes rest)
+  node-left : (t tag : ℕ) (mid : List ℕ) → Left bytes mid → Gives (parseNode t tag mid) (λ n rest. Left bytes rest)
   unfolding parseNode parseApp
-  node-left before zero mid l = l
-  node-left before (suc s) mid l =
+  node-left t zero mid l = l
+  node-left t (suc s) mid l =
       need-gives _ (leb s maxSymbol) 4 _ λ _.
       andThen-gives _ _ (parseNumber mid) _ (number-left mid l) λ c rest m.
       need-gives _ (leb c maxArity) 4 _ λ _.
-      need-gives _ (all (arityFits s c) before) 6 _ λ _.
-      andThen-gives _ _ (parseArguments (length before) c rest) _ (arguments-left (length before) c rest m) λ args rest′ n. n
+      andThen-gives _ _ (parseArguments t c rest) _ (arguments-left t c rest m) λ args rest′ n. n
 
   -- and where a part is refused
   part-left : {A : Type 0} (p : Parsed A) (mid : List ℕ) (then : A → List ℕ → List ℕ) → Left bytes mid → Gives p (λ a rest. Left bytes rest)
@@ -69,8 +68,8 @@ module _ (bytes : List ℕ) where
   unfolding unreadTerms
   terms-left zero before mid l = l
   terms-left (suc k) before mid l =
-      part-left (andThen (parseNumber mid) (parseNode before)) mid _ l
-      (andThen-gives _ _ (parseNumber mid) _ (number-left mid l) (node-left before))
+      part-left (andThen (parseNumber mid) (parseNode (length before))) mid _ l
+      (andThen-gives _ _ (parseNumber mid) _ (number-left mid l) (node-left (length before)))
       (λ n rest m. terms-left k (before ++ n ∷ []) rest m)
 
   book-left : (lim : Limits) → Left bytes (unreadBook lim bytes)
@@ -100,8 +99,8 @@ terms-passed : (k : ℕ) (before : Book) (bytes : List ℕ) (b : Book) (rest : L
 unfolding parseTerms unreadTerms andThen orLeft
 terms-passed zero before bytes b rest e = cc
 terms-passed (suc k) before bytes b rest e =
-    go (λ before′ bytes′. terms-passed k before′ bytes′ b rest) (andThen (parseNumber bytes) (parseNode before))
-    (then-then (parseNumber bytes) (parseNode before) (λ n left. parseTerms k (before ++ n ∷ []) left) ∙ e)
+    go (λ before′ bytes′. terms-passed k before′ bytes′ b rest) (andThen (parseNumber bytes) (parseNode (length before)))
+    (then-then (parseNumber bytes) (parseNode (length before)) (λ n left. parseTerms k (before ++ n ∷ []) left) ∙ e)
   where
     go : ((before′ : Book) (bytes′ : List ℕ) → parseTerms k before′ bytes′ ≡ parsed b rest → unreadTerms k before′ bytes′ ≡ rest)
         → (p : Parsed Node) → andThen p (λ n left. parseTerms k (before ++ n ∷ []) left) ≡ parsed b rest
@@ -148,19 +147,19 @@ record Stopped (k : ℕ) (before : Book) (bytes : List ℕ) (r : ℕ) (left : Li
   book : Book
   as-many : length book ≡ length before + count
   reads : parseTerms count before bytes ≡ parsed book left
-  refuses : andThen (parseNumber left) (parseNode book) ≡ unparsed r
+  refuses : andThen (parseNumber left) (parseNode (length book)) ≡ unparsed r
 
 terms-stopped : (k : ℕ) (before : Book) (bytes : List ℕ) (r : ℕ) → parseTerms k before bytes ≡ unparsed r
     → Stopped k before bytes r (unreadTerms k before bytes)
 unfolding parseTerms unreadTerms andThen orLeft
 terms-stopped zero before bytes r e = absurd (not-parsed (sym e))
 terms-stopped (suc k) before bytes r e =
-    go (λ before′ bytes′. terms-stopped k before′ bytes′ r) (andThen (parseNumber bytes) (parseNode before)) refl
-    (then-then (parseNumber bytes) (parseNode before) (λ n left. parseTerms k (before ++ n ∷ []) left) ∙ e)
+    go (λ before′ bytes′. terms-stopped k before′ bytes′ r) (andThen (parseNumber bytes) (parseNode (length before))) refl
+    (then-then (parseNumber bytes) (parseNode (length before)) (λ n left. parseTerms k (before ++ n ∷ []) left) ∙ e)
   where
     go : ((before′ : Book) (bytes′ : List ℕ) → parseTerms k before′ bytes′ ≡ unparsed r
         → Stopped k before′ bytes′ r (unreadTerms k before′ bytes′))
-        → (p : Parsed Node) → andThen (parseNumber bytes) (parseNode before) ≡ p
+        → (p : Parsed Node) → andThen (parseNumber bytes) (parseNode (length before)) ≡ p
         → andThen p (λ n left. parseTerms k (before ++ n ∷ []) left) ≡ unparsed r
         → Stopped (suc k) before bytes r (orLeft p bytes (λ n left. unreadTerms k (before ++ n ∷ []) left))
     go more (parsed n left) q h =
@@ -171,7 +170,7 @@ terms-stopped (suc k) before bytes r e =
           book = s .book;
           as-many = s .as-many ∙ rw length-append (omega arith);
           reads =
-              sym (then-then (parseNumber bytes) (parseNode before) (λ x rest. parseTerms (s .count) (before ++ x ∷ []) rest)) ∙ rw q (s .reads);
+              sym (then-then (parseNumber bytes) (parseNode (length before)) (λ x rest. parseTerms (s .count) (before ++ x ∷ []) rest)) ∙ rw q (s .reads);
           refuses = s .refuses;
         }
     go more (unparsed j) q h =

@@ -1,15 +1,13 @@
--- The parts of decoding a book, by position and with a table of the symbols' counts, and what each part
--- answers. Assumes nothing: these are definitions.
+-- The parts of decoding a book, by position, and what each part answers. Assumes nothing: these are definitions.
 use mathlib.Core.Path.{_≡_}
 use mathlib.Core.List.{List, [], _∷_}
 use Prim.Native.Nat.{ℕ, zero, suc, _+_, _*_, _≤_}
-use lib.ListN.{length, getD, set, drop}
+use lib.ListN.{length, drop}
 use lib.Seq.{sets}
 use Rattle.model.specs.Limits.{maxArity, maxSymbol}
 use Rattle.model.specs.Term.{Node, var, app, Book}
-use Rattle.model.specs.BookBytes.{Parsed, parsed, unparsed, andThen, need, parseArguments}
+use Rattle.model.specs.BookBytes.{Parsed, parsed, unparsed, andThen, parseArguments}
 use Rattle.model.specs.Area.{termWords}
-use Rattle.layout.specs.limits.Counts.{fitsEntry, noted, Suits}
 use Rattle.book.specs.parse.Below.{parseBelow}
 use Rattle.book.specs.decode.Rows.{bookRows}
 use Rattle.book.specs.declared.parse.Advance.{Advance}
@@ -47,12 +45,14 @@ headRead bytes p = outcome (p .refusal) (drop (p .next) bytes) (p .first, p .cou
 
 -- ---- a term, part by part
 
--- Count (4) and rule 6, behind a first number. A variable has no count.
-unfoldable pub parseCount : List ℕ → ℕ → List ℕ → Parsed (ℕ × ℕ)
-parseCount counts zero bytes = parsed (0, 0) bytes
-parseCount counts (suc s) bytes =
-    andThen (parseBelow (suc maxArity) 4 bytes) (λ c rest.
-    need (fitsEntry (getD counts s 0) c) 6 (parsed (suc s, c) rest))
+-- Count (4), behind a first number. A variable has no count.
+unfoldable pub parseCount : ℕ → List ℕ → Parsed (ℕ × ℕ)
+parseCount zero bytes = parsed (0, 0) bytes
+parseCount (suc s) bytes = andThen (parseBelow (suc maxArity) 4 bytes) (λ c rest. parsed (suc s, c) rest)
+
+-- The head of a term: symbol (4), count (4).
+unfoldable pub parseHead : List ℕ → Parsed (ℕ × ℕ)
+parseHead bytes = andThen (parseBelow (suc (suc maxSymbol)) 4 bytes) parseCount
 
 -- Arguments (5), behind a first number and a count.
 unfoldable pub nodeFrom : ℕ → ℕ → ℕ → List ℕ → Parsed Node
@@ -61,15 +61,6 @@ nodeFrom t (suc s) c bytes = andThen (parseArguments t c bytes) (λ args rest. p
 
 abbrev pub parseNodeOf : ℕ → ℕ × ℕ → List ℕ → Parsed Node
 parseNodeOf t h = nodeFrom t (h .0) (h .1)
-
--- Term t: symbol (4), count (4), rule 6, arguments (5).
-unfoldable pub parseTerm : List ℕ → ℕ → List ℕ → Parsed Node
-parseTerm counts t bytes = andThen (andThen (parseBelow (suc (suc maxSymbol)) 4 bytes) (parseCount counts)) (parseNodeOf t)
-
--- What a first number and a count put into the table of counts.
-unfoldable pub notedCount : ℕ → ℕ → List ℕ → List ℕ
-notedCount zero c counts = counts
-notedCount (suc s) c counts = set counts s (suc c)
 
 -- What a term puts into its row.
 unfoldable pub nodeRow : Node → List ℕ
@@ -86,14 +77,18 @@ AdvanceOf {A} bytes p P (Refused k) = p ≡ unparsed k
 pub record SymbolRead (bytes : List ℕ) (at : ℕ) (p : Position) : Type 0 where
   pub reads : firstRead bytes p ≡ parseBelow (suc (suc maxSymbol)) 4 (drop at bytes)
   pub within : p .next ≤ length bytes
-  pub small : p .first ≤ suc maxSymbol
 
--- q is behind the count that follows p, which is noted, or refused.
-pub record CountRead (bytes counts counts′ : List ℕ) (p q : Position) : Type 0 where
-  pub reads : headRead bytes q ≡ andThen (firstRead bytes p) (parseCount counts)
+-- q is behind the count that follows p, or refused.
+pub record CountRead (bytes : List ℕ) (p q : Position) : Type 0 where
+  pub reads : headRead bytes q ≡ andThen (firstRead bytes p) parseCount
   pub within : q .next ≤ length bytes
   pub few : q .count ≤ maxArity
-  pub counted : q .refusal ≡ 0 → counts′ ≡ notedCount (q .first) (q .count) counts
+
+-- q is behind the head of the term at `at`, or refused.
+pub record HeadRead (bytes : List ℕ) (at : ℕ) (q : Position) : Type 0 where
+  pub reads : headRead bytes q ≡ parseHead (drop at bytes)
+  pub within : q .next ≤ length bytes
+  pub few : q .count ≤ maxArity
 
 -- The arguments of term t stand in its row, c of them.
 pub record ArgumentsIn (t c : ℕ) (rows rows′ : List ℕ) (args : List ℕ) : Type 0 where
@@ -105,11 +100,10 @@ abbrev pub RowIn : ℕ → Position → List ℕ → List ℕ → Node → Type 
 RowIn t p rows rows′ var = (p .first ≡ 0) × (rows′ ≡ rows)
 RowIn t p rows rows′ (app s args) = (p .first ≡ suc s) × (length args ≡ p .count) × (rows′ ≡ sets rows (termWords * t) (nodeRow (app s args)))
 
--- Node n stands in row t, and its count is noted.
-pub record TermIn (t : ℕ) (counts counts′ rows rows′ : List ℕ) (n : Node) : Type 0 where
-  pub suits : Suits counts n
+-- Node n stands in row t, which it does not exceed.
+pub record TermIn (t : ℕ) (rows rows′ : List ℕ) (n : Node) : Type 0 where
+  pub few : length (nodeRow n) ≤ termWords
   pub written : rows′ ≡ sets rows (termWords * t) (nodeRow n)
-  pub counted : counts′ ≡ noted n counts
 
 -- The rows, of `size` words, are those of the book, which has n terms.
 pub record BookIn (n size : ℕ) (rows : List ℕ) (b : Book) : Type 0 where

@@ -10,7 +10,7 @@ use Rattle.model.specs.Limits.{Limits, office}
 use Rattle.model.specs.Term.{Book}
 use Rattle.model.specs.BookBytes.{Parsed, parsed, unparsed, andThen, need, parseNumber, parseNode, parseTerms, parseBook}
 use Rattle.model.specs.Computing.{computation}
-use Rattle.model.specs.Samples.{badBooks}
+use Rattle.model.specs.Samples.{badBooks, twoCounts}
 
 -- What follows a part that was read; where it is refused, the bytes from its first one on.
 unfoldable pub orLeft : {A : Type 0} → Parsed A → List ℕ → (A → List ℕ → List ℕ) → List ℕ
@@ -22,7 +22,7 @@ orLeft (unparsed n) bytes then = bytes
 unfoldable pub unreadTerms : ℕ → Book → List ℕ → List ℕ
 unreadTerms zero before bytes = bytes
 unreadTerms (suc k) before bytes =
-    orLeft (andThen (parseNumber bytes) (parseNode before)) bytes (λ n rest. unreadTerms k (before ++ n ∷ []) rest)
+    orLeft (andThen (parseNumber bytes) (parseNode (length before))) bytes (λ n rest. unreadTerms k (before ++ n ∷ []) rest)
 
 -- The number of terms, at the front of a book: refusals 1, 2 and 4.
 abbrev pub numberOfTerms : Limits → List ℕ → Parsed ℕ
@@ -50,14 +50,17 @@ pub data RefusedAt (lim : Limits) (bytes : List ℕ) (k : ℕ) : Type 0 where
   number-refused : 0 < length bytes → numberOfTerms lim bytes ≡ unparsed k → readTo lim bytes ≡ 0 → RefusedAt lim bytes k
   term-refused : (n : ℕ) (rest : List ℕ) (before : Book) → numberOfTerms lim bytes ≡ parsed n rest → length before < n
       → parseTerms (length before) [] rest ≡ parsed before (drop (readTo lim bytes) bytes)
-      → andThen (parseNumber (drop (readTo lim bytes) bytes)) (parseNode before) ≡ unparsed k → RefusedAt lim bytes k
+      → andThen (parseNumber (drop (readTo lim bytes) bytes)) (parseNode (length before)) ≡ unparsed k → RefusedAt lim bytes k
   bytes-left : (n : ℕ) (rest : List ℕ) (b : Book) → numberOfTerms lim bytes ≡ parsed n rest
       → parseTerms n [] rest ≡ parsed b (drop (readTo lim bytes) bytes) → readTo lim bytes < length bytes → k ≡ 3 → RefusedAt lim bytes k
 
 abbrev pub RefusedThere : Type 0
 RefusedThere = (lim : Limits) (bytes : List ℕ) (k : ℕ) → parseBook lim bytes ≡ unparsed k → RefusedAt lim bytes k
 
--- SAMPLES. How far document 01's examples of refusals 1 to 6 are read, and the books of one variable and of no bytes, which are accepted.
-pub read-to-samples : map (readTo office) (badBooks ++ (1 ∷ 0 ∷ []) ∷ [] ∷ []) ≡ 1 ∷ 0 ∷ 1 ∷ 0 ∷ 1 ∷ 3 ∷ 2 ∷ 0 ∷ []
+-- SAMPLES. How far document 01's examples of refusals 1 to 5 are read; a book whose second term is refused, behind one of the same symbol and
+-- another count; and three that are accepted: the book of two counts, that of one variable and that of no bytes.
+pub read-to-samples :
+    map (readTo office) (badBooks ++ (2 ∷ 1 ∷ 0 ∷ 1 ∷ 1 ∷ 1 ∷ []) ∷ twoCounts ∷ (1 ∷ 0 ∷ []) ∷ [] ∷ []) ≡
+    1 ∷ 0 ∷ 1 ∷ 0 ∷ 1 ∷ 3 ∷ 6 ∷ 2 ∷ 0 ∷ []
 unfolding computation readTo unreadBook unreadTerms orLeft
 read-to-samples = refl

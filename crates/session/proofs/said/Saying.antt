@@ -22,10 +22,10 @@ use Rattle.session.proofs.text.Digits.{Word, decimal-short}
 abbrev Not : ℕ → ℕ → Type 0
 Not k n = k ≡ n → ⊥
 
-pub no-words : (k : ℕ) → (((((((Unit {0} × Not k 1) × Not k 2) × Not k 3) × Not k 4) × Not k 5) × Not k 6) × Not k 8) → words k ≡ []
+pub no-words : (k : ℕ) → ((((((Unit {0} × Not k 1) × Not k 2) × Not k 3) × Not k 4) × Not k 5) × Not k 8) → words k ≡ []
 unfolding words
-no-words k (((((((_, a), b), c), d), e), f), g) =
-    rw (ne-eqb k 1 a, ne-eqb k 2 b, ne-eqb k 3 c, ne-eqb k 4 d, ne-eqb k 5 e, ne-eqb k 6 f, ne-eqb k 8 g)
+no-words k ((((((_, a), b), c), d), e), f) =
+    rw (ne-eqb k 1 a, ne-eqb k 2 b, ne-eqb k 3 c, ne-eqb k 4 d, ne-eqb k 5 e, ne-eqb k 8 f)
 
 either-short : (t : Bool) (xs ys : List ℕ) (n : ℕ) → length xs ≤ n → length ys ≤ n → length (cond t xs ys) ≤ n
 either-short true xs ys n h l = h
@@ -39,8 +39,7 @@ words-short k =
     (either-short (eqb k 3) _ _ longestWords (omega arith)
     (either-short (eqb k 4) _ _ longestWords (omega arith)
     (either-short (eqb k 5) _ _ longestWords (omega arith)
-    (either-short (eqb k 6) _ _ longestWords (omega arith)
-    (either-short (eqb k 8) _ _ longestWords (omega arith) (omega arith)))))))
+    (either-short (eqb k 8) _ _ longestWords (omega arith) (omega arith))))))
 
 -- there is room for so many bytes from a place on
 abbrev pub Room : List ℕ → ℕ → ℕ → Type 0

@@ -33,9 +33,8 @@ words k =
     (cond (eqb k 3) (ascii "bytes after the last term of the book")
     (cond (eqb k 4) (ascii "a number of terms, a symbol or a count out of range, or a session of more than 65,536 bytes")
     (cond (eqb k 5) (ascii "an argument that is not lower than its term")
-    (cond (eqb k 6) (ascii "a symbol with two counts")
     (cond (eqb k 8) (ascii "an unknown step")
-    []))))))
+    [])))))
 
 -- The line of a position and a refusal.
 unfoldable pub saidLine : ℕ → ℕ → List ℕ

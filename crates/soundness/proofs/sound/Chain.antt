@@ -23,19 +23,14 @@ use Rattle.soundness.specs.sound.Sound.{valuesOk, tableOk}
 use Rattle.soundness.proofs.sound.Facts.{RowFacts}
 use Rattle.soundness.proofs.sound.Padded.{to-padded, from-padded, rows-padded, padded-rows}
 use Rattle.soundness.proofs.sound.State.{Fits}
-use Rattle.soundness.proofs.sound.StateTests.{node-tests, terms-tests, arity-tests, table-tests}
+use Rattle.soundness.proofs.sound.StateTests.{node-tests, terms-tests, table-tests}
 use Rattle.soundness.proofs.sound.Parts.{Holds}
 
 -- rows in order hold terms that obey the rules of terms
 pub rows-rules : (w : Loaded) → RowFacts w → T (termsOk (bookOf (w .termRows) (w .terms)) (boundOf (w .bindingWords) (w .terms)))
 rows-rules w f =
-    let arity : _ = arity-tests (w .termRows) (w .terms) .0 (f .one-arity) in
     terms-tests (w .termRows) (w .bindingWords) (w .terms) .1 (λ t l. (
-      node-tests (bookOf (w .termRows) (w .terms)) t (nodeOf (w .termRows) t) .1 (
-        f .term-row t l .in-range,
-        le-trans (few-arguments (w .termRows) t) (f .term-row t l .count),
-        arity t l,
-      ),
+      node-tests t (nodeOf (w .termRows) t) .1 (f .term-row t l .in-range, le-trans (few-arguments (w .termRows) t) (f .term-row t l .count)),
       f .binding t l,
     ))
 
@@ -94,8 +89,7 @@ module _ (lim : Limits) (w : Loaded) (fits : Fits lim w) where
       padded-rows entryWords (loadedEntry (w .entryRows)) entryRowWords (w .entryRows) (w .entries) _ (holeAt 0 0 0) (wide-entries lim s f) (holds .entry-words) in
       record {
         term-row = λ t l.
-            record { count = fits .term-counts t l; row = terms .0 t l; in-range = node-tests b t (nodeOf (w .termRows) t) .0 (term t l .0) .0 };
-        one-arity = arity-tests (w .termRows) (w .terms) .1 (λ t l. node-tests b t (nodeOf (w .termRows) t) .0 (term t l .0) .2);
+            record { count = fits .term-counts t l; row = terms .0 t l; in-range = node-tests t (nodeOf (w .termRows) t) .0 (term t l .0) .0 };
         no-more-terms = terms .1;
         binding = λ t l. term t l .1;
         no-more-bindings = from-padded _ _ _ _ (rw length-map (length-boundOf (w .bindingWords) (w .terms))) (holds .binding-words);

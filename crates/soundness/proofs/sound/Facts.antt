@@ -8,7 +8,7 @@ use Rattle.model.specs.Limits.{Limits, maxArity}
 use Rattle.model.specs.Lists.{all}
 use Rattle.model.specs.Area.{termWords, entryRowWords, areaLength, nodeWords, entryWords, bindingOk, word}
 use Rattle.layout.specs.limits.Rows.{Loaded, at, nodeOf, bookOf, bindingOf, loadedEntry}
-use Rattle.soundness.specs.rows.RowTests.{zeroFrom, nodeInRange, oneArity}
+use Rattle.soundness.specs.rows.RowTests.{zeroFrom, nodeInRange}
 
 -- The header's numbers lie in their ranges, and the area is long enough.
 pub record HeaderFacts (lim : Limits) (area : List ℕ) : Type 0 where
@@ -35,7 +35,6 @@ pub record EntryRow (entries : List ℕ) (n i : ℕ) : Type 0 where
 -- What the rows obey: the used ones, and those behind them.
 pub record RowFacts (w : Loaded) : Type 0 where
   pub term-row : (t : ℕ) → t < w .terms → TermRow (w .termRows) t
-  pub one-arity : T (oneArity (bookOf (w .termRows) (w .terms)))
   pub no-more-terms : T (zeroFrom (w .termRows) (termWords * w .terms))
   pub binding : (t : ℕ) → t < w .terms → T (bindingOk (bookOf (w .termRows) (w .terms)) (nodeOf (w .termRows) t) (bindingOf (w .bindingWords) t))
   pub no-more-bindings : T (zeroFrom (w .bindingWords) (w .terms))

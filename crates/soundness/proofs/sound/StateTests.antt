@@ -10,49 +10,42 @@ use Rattle.model.specs.Limits.{maxArity, maxSymbol}
 use Rattle.model.specs.Lists.{all}
 use Rattle.model.specs.Term.{Node, var, app, arguments, Book, Bindings, root}
 use Rattle.model.specs.Table.{Entry, Table, entryOf}
-use Rattle.model.specs.BookBytes.{arityFits}
 use Rattle.model.specs.Area.{entryRowWords, nodeOk, bindingOk, termsOk, kindOk, entryOk}
-use Rattle.theory.proofs.Lists.Conjunctions.{and₂, and₄}
+use Rattle.theory.proofs.Lists.Conjunctions.{and₂, and₃, and₄}
 use Rattle.theory.proofs.Lists.From.{all-map-from}
 use Rattle.theory.proofs.Soundness.Terms.{all-below, below-all}
 use Rattle.layout.specs.limits.Rows.{at, nodeOf, bookOf, bindingOf, boundOf, loadedEntry, tableOf}
 use Rattle.layout.proofs.limits.Rows.{length-bookOf, getD-bookOf, getD-boundOf}
-use Rattle.soundness.specs.rows.RowTests.{nodeInRange, nodeArityOk, oneArity}
+use Rattle.soundness.specs.rows.RowTests.{nodeInRange}
 use Rattle.soundness.specs.sound.Sound.{valuesOk}
 
--- a node obeys the rules of terms exactly when its numbers lie in their ranges and its symbol has one count
-pub node-tests : (b : Book) (t : ℕ) (n : Node)
-    → T (nodeOk b t n) ↔ (T (nodeInRange t n) × (length (arguments n) ≤ maxArity) × T (nodeArityOk b n))
-unfolding nodeOk nodeInRange nodeArityOk arguments
-node-tests b t var = (λ h. (tt, zero-le, tt), λ h. tt)
-node-tests b t (app s args) =
-    let four : _ = and₄ (leb s maxSymbol) (leb (length args) maxArity) (all (λ a. ltb a t) args) (all (arityFits s (length args)) b) in
+-- a node obeys the rules of terms exactly when its numbers lie in their ranges and its arguments are not too many
+pub node-tests : (t : ℕ) (n : Node) → T (nodeOk t n) ↔ (T (nodeInRange t n) × (length (arguments n) ≤ maxArity))
+unfolding nodeOk nodeInRange arguments
+node-tests t var = (λ h. (tt, zero-le), λ h. tt)
+node-tests t (app s args) =
+    let three : _ = and₃ (leb s maxSymbol) (leb (length args) maxArity) (all (λ a. ltb a t) args) in
     let two : _ = and₂ (leb s maxSymbol) (all (λ a. ltb a t) args) in (
-      λ h. let g : _ = four .0 h in (two .1 (g .0, g .2), leb→le (length args) maxArity (g .1), g .3),
-      λ h. let g : _ = two .0 (h .0) in four .1 (g .0, le→leb (length args) maxArity (h .1), g .1, h .2),
+      λ h. let g : _ = three .0 h in (two .1 (g .0, g .2), leb→le (length args) maxArity (g .1)),
+      λ h. let g : _ = two .0 (h .0) in three .1 (g .0, le→leb (length args) maxArity (h .1), g .1),
     )
-
--- a symbol has one count exactly when each term's has
-pub arity-tests : (rows : List ℕ) (n : ℕ) → T (oneArity (bookOf rows n)) ↔ ((t : ℕ) → t < n → T (nodeArityOk (bookOf rows n) (nodeOf rows t)))
-unfolding oneArity bookOf
-arity-tests rows n = all-map-from (nodeOf rows) (nodeArityOk (bookOf rows n)) n
 
 module _ (rows bindings : List ℕ) (n : ℕ) where
   -- the loaded terms and their bindings pass exactly when each does
   pub terms-tests : T (termsOk (bookOf rows n) (boundOf bindings n)) ↔
-      ((t : ℕ) → t < n → T (nodeOk (bookOf rows n) t (nodeOf rows t)) × T (bindingOk (bookOf rows n) (nodeOf rows t) (bindingOf bindings t)))
+      ((t : ℕ) → t < n → T (nodeOk t (nodeOf rows t)) × T (bindingOk (bookOf rows n) (nodeOf rows t) (bindingOf bindings t)))
   unfolding termsOk
   terms-tests =
       let b : Book = bookOf rows n in
       let β : Bindings = boundOf bindings n in
-      let test : ℕ → Bool = λ t. nodeOk b t (getD b t var) && bindingOk b (getD b t var) (getD β t none) in (
+      let test : ℕ → Bool = λ t. nodeOk t (getD b t var) && bindingOk b (getD b t var) (getD β t none) in (
         λ h t l. rw (getD-bookOf rows n t l, getD-boundOf bindings n t l) at
-            (and₂ (nodeOk b t (getD b t var)) (bindingOk b (getD b t var) (getD β t none)) .0
+            (and₂ (nodeOk t (getD b t var)) (bindingOk b (getD b t var) (getD β t none)) .0
             (all-below test (length b) h t (rw (length-bookOf rows n) l))),
         λ h. below-all test (length b) (λ t l.
             let k : t < n = rw (length-bookOf rows n) at l in
             rw (getD-bookOf rows n t k, getD-boundOf bindings n t k)
-            (and₂ (nodeOk b t (nodeOf rows t)) (bindingOk b (nodeOf rows t) (bindingOf bindings t)) .1 (h t k))),
+            (and₂ (nodeOk t (nodeOf rows t)) (bindingOk b (nodeOf rows t) (bindingOf bindings t)) .1 (h t k))),
       )
 
 -- an entry passes exactly when its sides are terms and its values are right

@@ -13,7 +13,7 @@ use Rattle.theory.proofs.Lists.Laws.{eqNumbers-eq, eqNumbers-refl}
 use Rattle.theory.proofs.Lists.Conjunctions.{and₂, and₃, and₄, and₆}
 use Rattle.theory.proofs.Soundness.Terms.{all-below, below-all}
 use Rattle.layout.specs.limits.Rows.{Loaded, at, nodeOf, bookOf, bindingOf, loadedEntry}
-use Rattle.soundness.specs.rows.RowTests.{zeroFrom, nodeInRange, termRowOk, oneArity, termRowsOk, bindingsOk, linesOk, entryRowOk, entryRowsOk}
+use Rattle.soundness.specs.rows.RowTests.{zeroFrom, nodeInRange, termRowOk, termRowsOk, bindingsOk, linesOk, entryRowOk, entryRowsOk}
 use Rattle.soundness.specs.sound.Sound.{headerOk, rowsOk}
 use Rattle.soundness.proofs.sound.Facts.{HeaderFacts, TermRow, EntryRow, RowFacts}
 
@@ -83,8 +83,7 @@ module _ (w : Loaded) where
       let four : _ =
       and₄ (termRowsOk (w .termRows) (w .terms)) (bindingsOk (w .termRows) (w .bindingWords) (w .terms)) (linesOk (w .lineWords) (w .lines) (w .entries))
       (entryRowsOk (w .entryRows) (w .entries) (w .terms)) in
-      let terms : _ =
-      and₃ (all termTest (from 0 (w .terms))) (oneArity (bookOf (w .termRows) (w .terms))) (zeroFrom (w .termRows) (termWords * w .terms)) in
+      let terms : _ = and₂ (all termTest (from 0 (w .terms))) (zeroFrom (w .termRows) (termWords * w .terms)) in
       let bindings : _ = and₂ (all bindingTest (from 0 (w .terms))) (zeroFrom (w .bindingWords) (w .terms)) in
       let lines : _ = and₂ (all (λ i. ltb i (w .entries)) (take (w .lines) (w .lineWords))) (zeroFrom (w .lineWords) (w .lines)) in
       let entries : _ = and₂ (all entryTest (from 0 (w .entries))) (zeroFrom (w .entryRows) (entryRowWords * w .entries)) in (
@@ -95,8 +94,7 @@ module _ (w : Loaded) where
             let e : _ = entries .0 (g .3) in
             record {
               term-row = λ i k. term-row (w .termRows) i .0 (all-below termTest (w .terms) (t .0) i k);
-              one-arity = t .1;
-              no-more-terms = t .2;
+              no-more-terms = t .1;
               binding = all-below bindingTest (w .terms) (b .0);
               no-more-bindings = b .1;
               line = l .0;
@@ -105,7 +103,7 @@ module _ (w : Loaded) where
               no-more-entries = e .1;
             },
         λ f. four .1 (
-          terms .1 (below-all termTest (w .terms) (λ i k. term-row (w .termRows) i .1 (f .term-row i k)), f .one-arity, f .no-more-terms),
+          terms .1 (below-all termTest (w .terms) (λ i k. term-row (w .termRows) i .1 (f .term-row i k)), f .no-more-terms),
           bindings .1 (below-all bindingTest (w .terms) (f .binding), f .no-more-bindings),
           lines .1 (f .line, f .no-more-lines),
           entries .1 (below-all entryTest (w .entries) (λ i k. entry-row (w .entryRows) (w .terms) i .1 (f .entry-row i k)), f .no-more-entries),

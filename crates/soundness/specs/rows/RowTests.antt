@@ -3,12 +3,11 @@
 use mathlib.Core.List.{List}
 use mathlib.Core.Bool.{Bool, true, _&&_}
 use Prim.Native.Nat.{ℕ, _+_, _*_}
-use lib.ListN.{length, take, drop}
+use lib.ListN.{take, drop}
 use lib.Dec.{eqb, ltb, leb}
 use Rattle.model.specs.Limits.{maxArity, maxSymbol}
 use Rattle.model.specs.Lists.{all, from, eqNumbers}
-use Rattle.model.specs.Term.{Node, var, app, Book}
-use Rattle.model.specs.BookBytes.{arityFits}
+use Rattle.model.specs.Term.{Node, var, app}
 use Rattle.model.specs.Area.{termWords, entryRowWords, nodeWords, entryWords, bindingOk}
 use Rattle.layout.specs.limits.Rows.{at, nodeOf, bookOf, bindingOf, loadedEntry}
 
@@ -27,17 +26,9 @@ termRowOk rows t =
     leb (at rows (termWords * t + 1)) maxArity &&
     eqNumbers (take termWords (drop (termWords * t) rows)) (nodeWords (nodeOf rows t)) && nodeInRange t (nodeOf rows t)
 
--- A symbol has one count throughout the book.
-unfoldable pub nodeArityOk : Book → Node → Bool
-nodeArityOk b var = true
-nodeArityOk b (app s args) = all (arityFits s (length args)) b
-
-unfoldable pub oneArity : Book → Bool
-oneArity b = all (nodeArityOk b) b
-
 -- The rows of n terms.
 unfoldable pub termRowsOk : List ℕ → ℕ → Bool
-termRowsOk rows n = all (termRowOk rows) (from 0 n) && oneArity (bookOf rows n) && zeroFrom rows (termWords * n)
+termRowsOk rows n = all (termRowOk rows) (from 0 n) && zeroFrom rows (termWords * n)
 
 -- The bindings of n terms: only variables are bound, and to terms.
 unfoldable pub bindingsOk : List ℕ → List ℕ → ℕ → Bool

@@ -12,8 +12,9 @@ use Rattle.model.specs.Term.{Node, symbol, arguments, alike, Book, Bindings}
 use Rattle.model.specs.Table.{common, Entry, Table, entry, entryOf, turn}
 use Rattle.model.specs.Area.{termWords, entryRowWords, entryWords, kindWords}
 use Rattle.model.specs.Report.{kindArguments}
-use Rattle.theory.proofs.Lists.Laws.{true-T, length-pairwise}
+use Rattle.theory.proofs.Lists.Laws.{length-pairwise}
 use Rattle.theory.proofs.Area.Rows.{width-entry}
+use Rattle.theory.proofs.Values.Equations.{alike-counts}
 use Rattle.theory.proofs.Table.Place.{grown, turn-length, turn-grown, placeAll-longer}
 use Rattle.layout.specs.limits.Rows.{at, nodeOf}
 use Rattle.layout.proofs.limits.Rows.{node-app}
@@ -99,10 +100,7 @@ module _ {rows names entries lefts rights cells : List ℕ} {capacity m i : ℕ}
 
   -- the terms have as many arguments, and those are few
   counts : length (arguments n) ≡ length (arguments o)
-  counts =
-      let left = term-row (q .known) l (q .left-term) in
-      let right = term-row (q .known) r (q .right-term) in
-      rw (left, right) at (formed (q .known) .one-arity l r (q .left-term) (q .right-term) (rw (left, right) (true-T (alike n o) (q .are-alike))))
+  counts = alike-counts n o (q .are-alike)
 
   few : length (arguments n) ≤ maxArity
   few = rw (term-row (q .known) l (q .left-term)) at (formed (q .known) .small-arity l (q .left-term))

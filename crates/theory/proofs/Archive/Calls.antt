@@ -7,7 +7,7 @@ use native.Mathlib.Omega.{arith}
 use borrow.Author.Tests.{ne-eqb}
 use lib.ListN.{length, getD}
 use lib.Seq.{take-append-seam}
-use lib.Dec.{T, eqb, ltb, leb, leb→le}
+use lib.Dec.{T, eqb, ltb, leb, leb→le, eqb-refl}
 use Rattle.leb128.specs.Laws.{areBytes}
 use Rattle.model.specs.Limits.{Limits}
 use Rattle.model.specs.Lists.{all, isEmpty}
@@ -18,7 +18,7 @@ use Rattle.model.specs.Call.{refuse, accept, guard, over, emit, copyParsed}
 use Rattle.model.specs.Archive.{variablesFirst, newNumber, oldNumber, renumbered, moved, storedBook, restoredBook, parseNumbers, allDistinct, parseList, argumentsLower, restoreBy, parseRestored, callRestore, Stored, notStored, emitBoth, storeParsed, callStore}
 use Rattle.theory.specs.Tests.{ArgumentsLower}
 use Rattle.theory.specs.Archive.{EachOnce, Renumbers, OpensAs, Stores, StoresAsAsked, StoredRestores, RestoredFrom, RestoresAsAsked, Restores, RestoresWhereItOpens, WithoutSeven, Archive}
-use Rattle.theory.proofs.Lists.Laws.{and-left, and-right, same-first, same-second}
+use Rattle.theory.proofs.Lists.Laws.{and-left, and-right, T-true, same-first, same-second}
 use Rattle.theory.proofs.Book.Gives.{Gives, gives-at, need-gives, andThen-gives}
 use Rattle.theory.proofs.Book.Round.{parsed-whole, written-back}
 use Rattle.theory.proofs.Book.Parses.{parsed-small, decoded-opens}
@@ -205,9 +205,9 @@ stored-restores lim book out list w z m n h back =
     (restores lim (bookBytes (s .new)) back (s .new) [] (s .list) (s .stored-opens) (rw (r .as-many) (s .stored-as .each-once)) .works (s .terms) opened r
     ∙ ap (λ bytes. emit bytes [] back) (written-back lim book (s .terms) [] w (s .opens)))
 
--- NO SEVEN. What is read is refused by a number that is none of 0, 7 and 13.
+-- NO SEVEN, NO SIX. What is read is refused by a number that is none of 0, 6, 7 and 13.
 abbrev ofArchive : ℕ → Bool
-ofArchive n = not (eqb n 0) && (not (eqb n 7) && not (eqb n 13))
+ofArchive n = not (eqb n 0) && (not (eqb n 6) && (not (eqb n 7) && not (eqb n 13)))
 
 book-too : {A : Type 0} (p : Parsed A) → RefusedBy ofBook p → RefusedBy ofArchive p
 book-too p h = refused-too ofBook ofArchive go p h
@@ -215,8 +215,8 @@ book-too p h = refused-too ofBook ofArchive go p h
     go : (n : ℕ) → T (ofBook n) → T (ofArchive n)
     go n h =
         let low = leb→le 1 n (and-left (leb 1 n) _ h) in
-        let high = leb→le n 6 (and-right (leb 1 n) _ h) in
-        rw (ne-eqb n 0 (λ e. omega (arith, low)), ne-eqb n 7 (λ e. omega (arith, high)), ne-eqb n 13 (λ e. omega (arith, high))) tt
+        let high = leb→le n 5 (and-right (leb 1 n) _ h) in
+        rw (ne-eqb n 0 (λ e. omega (arith, low)), ne-eqb n 6 (λ e. omega (arith, high)), ne-eqb n 7 (λ e. omega (arith, high)), ne-eqb n 13 (λ e. omega (arith, high))) tt
 
 numbers-refused : (k : ℕ) (bytes : List ℕ) → RefusedBy ofArchive (parseNumbers k bytes)
 unfolding parseNumbers
@@ -235,43 +235,64 @@ restored-refused lim book list =
     (need-refused ofArchive (all (λ t. ltb t (length new)) listed) 8 _ tt (need-refused ofArchive (allDistinct listed) 14 _ tt tt))))
     (λ listed rest′. need-refused ofArchive (argumentsLower (restoredBook listed new)) 5 _ tt tt))
 
+-- none of these
+module _ (n : ℕ) (h : T (ofArchive n)) where
+  not-zero : T (not (eqb n 0))
+  not-zero = and-left (not (eqb n 0)) _ h
+
+  not-six : T (not (eqb n 6))
+  not-six = and-left (not (eqb n 6)) _ (and-right (not (eqb n 0)) _ h)
+
+  not-seven : T (not (eqb n 7))
+  not-seven = and-left (not (eqb n 7)) _ (and-right (not (eqb n 6)) _ (and-right (not (eqb n 0)) _ h))
+
+  not-thirteen : T (not (eqb n 13))
+  not-thirteen = and-right (not (eqb n 7)) _ (and-right (not (eqb n 6)) _ (and-right (not (eqb n 0)) _ h))
+
 pub restored-positive : (lim : Limits) (book list : List ℕ) → Positive (parseRestored lim book list)
 restored-positive lim book list =
-    refused-too ofArchive (λ n. not (eqb n 0)) (λ n h. and-left (not (eqb n 0)) _ h) (parseRestored lim book list) (restored-refused lim book list)
+    refused-too ofArchive (λ n. not (eqb n 0)) not-zero (parseRestored lim book list) (restored-refused lim book list)
 
 pub restored-not-thirteen : (lim : Limits) (book list : List ℕ) → RefusedBy (λ n. not (eqb n 13)) (parseRestored lim book list)
 restored-not-thirteen lim book list =
-    refused-too ofArchive (λ n. not (eqb n 13)) (λ n h. and-right (not (eqb n 7)) _ (and-right (not (eqb n 0)) _ h)) (parseRestored lim book list)
-    (restored-refused lim book list)
+    refused-too ofArchive (λ n. not (eqb n 13)) not-thirteen (parseRestored lim book list) (restored-refused lim book list)
 
-not-seven-at : (n : ℕ) → T (not (eqb n 7)) → n ≡ 7 → ⊥
-not-seven-at n h e = rw e at h
+-- a refusal that reading does not give, and that is not 0 or 13, is not given by copying, restoring or storing
+module _ (k : ℕ) (accepted : T (not (eqb 0 k))) (short : T (not (eqb 13 k))) where
+  not-at : (n : ℕ) → T (not (eqb n k)) → n ≡ k → ⊥
+  not-at n h e = let z : T (not (eqb k k)) = rw e at h in rw (T-true (eqb k k) (eqb-refl k)) at z
 
-copy-not-seven : (out : List ℕ) (p : Parsed Book) → RefusedBy ofArchive p → copyParsed out p .refusal ≡ 7 → ⊥
-unfolding copyParsed emit refuse guard accept
-copy-not-seven out (unparsed n) h z = not-seven-at n (and-left (not (eqb n 7)) _ (and-right (not (eqb n 0)) _ h)) z
-copy-not-seven out (parsed b rest) h z = go (leb (length (bookBytes b)) (length out)) z
-  where
-    go : (t : Bool) → guard t (refuse 1 13 [] out) (accept (length (bookBytes b) ∷ []) [] (over (bookBytes b) out)) .refusal ≡ 7 → ⊥
-    go true z = not-seven-at 0 tt z
-    go false z = not-seven-at 13 tt z
+  pub copy-not : (out : List ℕ) (p : Parsed Book) → RefusedBy (λ n. not (eqb n k)) p → copyParsed out p .refusal ≡ k → ⊥
+  unfolding copyParsed emit refuse guard accept
+  copy-not out (unparsed n) h z = not-at n h z
+  copy-not out (parsed b rest) h z = go (leb (length (bookBytes b)) (length out)) z
+    where
+      go : (t : Bool) → guard t (refuse 1 13 [] out) (accept (length (bookBytes b) ∷ []) [] (over (bookBytes b) out)) .refusal ≡ k → ⊥
+      go true z = not-at 0 accepted z
+      go false z = not-at 13 short z
 
-store-not-seven : (out list : List ℕ) (p : Parsed Book) → RefusedBy ofArchive p → storeParsed out list p .refusal ≡ 7 → ⊥
-unfolding storeParsed emitBoth notStored
-store-not-seven out list (unparsed n) h z = not-seven-at n (and-left (not (eqb n 7)) _ (and-right (not (eqb n 0)) _ h)) z
-store-not-seven out list (parsed b rest) h z =
-    go (leb (length (bookBytes (storedBook b))) (length out) && leb (length (numberBytes (variablesFirst b))) (length list)) z
-  where
-    go : (t : Bool) → (cond t (record { refusal = 0; numbers = length (bookBytes (storedBook b)) ∷ length (numberBytes (variablesFirst b)) ∷ []; output = over (bookBytes (storedBook b)) out; list = over (numberBytes (variablesFirst b)) list }) (notStored 13 out list)) .refusal ≡ 7 → ⊥
-    go true z = not-seven-at 0 tt z
-    go false z = not-seven-at 13 tt z
+  pub store-not : (out list : List ℕ) (p : Parsed Book) → RefusedBy (λ n. not (eqb n k)) p → storeParsed out list p .refusal ≡ k → ⊥
+  unfolding storeParsed emitBoth notStored
+  store-not out list (unparsed n) h z = not-at n h z
+  store-not out list (parsed b rest) h z =
+      go (leb (length (bookBytes (storedBook b))) (length out) && leb (length (numberBytes (variablesFirst b))) (length list)) z
+    where
+      go : (t : Bool) → (cond t (record { refusal = 0; numbers = length (bookBytes (storedBook b)) ∷ length (numberBytes (variablesFirst b)) ∷ []; output = over (bookBytes (storedBook b)) out; list = over (numberBytes (variablesFirst b)) list }) (notStored 13 out list)) .refusal ≡ k → ⊥
+      go true z = not-at 0 accepted z
+      go false z = not-at 13 short z
 
 without-seven : WithoutSeven
 unfolding callStore callRestore
 without-seven = (
-  λ lim book out list. store-not-seven out list (parseBook lim book) (book-too (parseBook lim book) (book-refused lim book)),
-  λ lim book list out. copy-not-seven out (parseRestored lim book list) (restored-refused lim book list),
+  λ lim book out list. store-not 7 tt tt out list (parseBook lim book)
+      (refused-too ofArchive (λ n. not (eqb n 7)) not-seven (parseBook lim book) (book-too (parseBook lim book) (book-refused lim book))),
+  λ lim book list out. copy-not 7 tt tt out (parseRestored lim book list)
+      (refused-too ofArchive (λ n. not (eqb n 7)) not-seven (parseRestored lim book list) (restored-refused lim book list)),
 )
+
+pub restored-not-six : (lim : Limits) (book list : List ℕ) → RefusedBy (λ n. not (eqb n 6)) (parseRestored lim book list)
+restored-not-six lim book list =
+    refused-too ofArchive (λ n. not (eqb n 6)) not-six (parseRestored lim book list) (restored-refused lim book list)
 
 -- AN ACCEPTED RESTORING.
 module _ (lim : Limits) (book bytes out : List ℕ) (w : T (areBytes bytes)) where

@@ -43,12 +43,6 @@ unfolding renumbered arguments
 renumbered-at f var i l = absurd (not-suc-le-zero l)
 renumbered-at f (app s args) i l = getD-map-lt f args i 0 0 l
 
-renumbered-alike : (f g : ℕ → ℕ) (x y : Node) → alike (renumbered f x) (renumbered g y) ≡ alike x y
-unfolding renumbered alike
-renumbered-alike f g var y = refl
-renumbered-alike f g (app s args) var = refl
-renumbered-alike f g (app s args) (app s′ args′) = refl
-
 -- A BOOK MOVED.
 pub moved-formed : (source target : ℕ → ℕ) (b : Book) (β : Bindings) → Formed b β → ((i : ℕ) → i < length b → source i < length b)
     → ArgumentsLower (moved source target b) → Formed (moved source target b) (map (λ (n : Node). none) (moved source target b))
@@ -56,10 +50,6 @@ moved-formed source target b β f terms low =
     record {
       same-length = length-map new (λ (n : Node). none);
       lower = low;
-      one-arity = λ t u l k a.
-          rw (at t l, at u k, renumbered-count target, renumbered-count target)
-          (f .one-arity (source t) (source u) (terms t (there t l)) (terms u (there u k))
-          (rw (at t l, at u k, renumbered-alike target target) at a));
       small-arity = λ t l. rw (at t l, renumbered-count target) (f .small-arity (source t) (terms t (there t l)));
       small-symbol = λ t l. rw (at t l, renumbered-symbol target) (f .small-symbol (source t) (terms t (there t l)));
       bound-var = λ t u e. absurd (nothing-bound new t u e);

@@ -13,7 +13,7 @@ use Rattle.leb128.proofs.Laws.{fronts-of-numbers}
 use Rattle.model.specs.Limits.{Limits, maxArity, maxSymbol}
 use Rattle.model.specs.Lists.{all, isEmpty}
 use Rattle.model.specs.Term.{Book}
-use Rattle.model.specs.BookBytes.{Parsed, parsed, unparsed, andThen, need, fromRead, arityFits, parseNumber, parseArguments, parseApp, parseNode, parseTerms, parseWritten, parseBook}
+use Rattle.model.specs.BookBytes.{Parsed, parsed, unparsed, andThen, need, fromRead, parseNumber, parseArguments, parseApp, parseNode, parseTerms, parseWritten, parseBook}
 use Rattle.theory.proofs.Book.Written.{some-written}
 use Rattle.theory.proofs.Book.Round.{parsed-whole}
 
@@ -63,23 +63,22 @@ module _ (tail : List ℕ) where
       need-front (ltb a t) 5 _ _
       (then-front (parseArguments t c (left ++ tail)) (parseArguments t c left) _ (arguments-front t c left) λ args left′. inl (left′, refl, refl))
 
-  node-front : (before : Book) (tag : ℕ) (front : List ℕ) → Front tail (parseNode before tag (front ++ tail)) (parseNode before tag front)
+  node-front : (t tag : ℕ) (front : List ℕ) → Front tail (parseNode t tag (front ++ tail)) (parseNode t tag front)
   unfolding parseNode parseApp
-  node-front before zero front = inl (front, refl, refl)
-  node-front before (suc s) front =
+  node-front t zero front = inl (front, refl, refl)
+  node-front t (suc s) front =
       need-front (leb s maxSymbol) 4 _ _
       (then-front (parseNumber (front ++ tail)) (parseNumber front) _ (number-front front) λ c left.
       need-front (leb c maxArity) 4 _ _
-      (need-front (all (arityFits s c) before) 6 _ _
-      (then-front (parseArguments (length before) c (left ++ tail)) (parseArguments (length before) c left) _
-      (arguments-front (length before) c left) λ args left′. inl (left′, refl, refl))))
+      (then-front (parseArguments t c (left ++ tail)) (parseArguments t c left) _
+      (arguments-front t c left) λ args left′. inl (left′, refl, refl)))
 
   terms-front : (k : ℕ) (before : Book) (front : List ℕ) → Front tail (parseTerms k before (front ++ tail)) (parseTerms k before front)
   unfolding parseTerms
   terms-front zero before front = inl (front, refl, refl)
   terms-front (suc k) before front =
       then-front (parseNumber (front ++ tail)) (parseNumber front) _ (number-front front) λ tag left.
-      then-front (parseNode before tag (left ++ tail)) (parseNode before tag left) _ (node-front before tag left) λ n left′.
+      then-front (parseNode (length before) tag (left ++ tail)) (parseNode (length before) tag left) _ (node-front (length before) tag left) λ n left′.
       terms-front k (before ++ n ∷ []) left′
 
 -- Behind a book nothing is left, so a front that lacks a byte is cut.

@@ -12,7 +12,7 @@ use Rattle.model.specs.Limits.{Limits, maxArity, maxSymbol}
 use Rattle.model.specs.Lists.{all, isEmpty}
 use Rattle.model.specs.Term.{Book}
 use Rattle.model.specs.Step.{opened}
-use Rattle.model.specs.BookBytes.{Parsed, parsed, unparsed, andThen, need, fromRead, parseNumber, arityFits, parseArguments, parseApp, parseNode, parseTerms, parseWritten, parseBook, asWritten}
+use Rattle.model.specs.BookBytes.{Parsed, parsed, unparsed, andThen, need, fromRead, parseNumber, parseArguments, parseApp, parseNode, parseTerms, parseWritten, parseBook, asWritten}
 use Rattle.model.specs.Area.{areaLength}
 use Rattle.model.specs.Call.{refuse, accept, guard, openParsed, callOpen}
 use Rattle.theory.specs.EmptyBook.{Openable}
@@ -46,9 +46,9 @@ pub refused-too : {A : Type 0} (q r : ℕ → Bool) → ((n : ℕ) → T (q n) �
 refused-too q r h (parsed a rest) g = tt
 refused-too q r h (unparsed n) g = h n g
 
--- A book's refusals are 1 to 6.
+-- A book's refusals are 1 to 5.
 abbrev pub ofBook : ℕ → Bool
-ofBook n = leb 1 n && leb n 6
+ofBook n = leb 1 n && leb n 5
 
 -- a number read
 read-refused : (r : Read) → RefusedBy ofBook (fromRead r)
@@ -69,22 +69,21 @@ arguments-refused t (suc c) bytes =
     then-refused ofBook (parseNumber bytes) _ (number-refused bytes)
     (λ a rest. need-refused ofBook (ltb a t) 5 _ tt (then-refused ofBook (parseArguments t c rest) _ (arguments-refused t c rest) (λ args rest′. tt)))
 
-node-refused : (before : Book) (tag : ℕ) (bytes : List ℕ) → RefusedBy ofBook (parseNode before tag bytes)
+pub node-refused : (t tag : ℕ) (bytes : List ℕ) → RefusedBy ofBook (parseNode t tag bytes)
 unfolding parseNode parseApp
-node-refused before zero bytes = tt
-node-refused before (suc s) bytes =
+node-refused t zero bytes = tt
+node-refused t (suc s) bytes =
     need-refused ofBook (leb s maxSymbol) 4 _ tt
     (then-refused ofBook (parseNumber bytes) _ (number-refused bytes)
     (λ c rest. need-refused ofBook (leb c maxArity) 4 _ tt
-    (need-refused ofBook (all (arityFits s c) before) 6 _ tt
-    (then-refused ofBook (parseArguments (length before) c rest) _ (arguments-refused (length before) c rest) (λ args rest′. tt)))))
+    (then-refused ofBook (parseArguments t c rest) _ (arguments-refused t c rest) (λ args rest′. tt))))
 
 terms-refused : (k : ℕ) (before : Book) (bytes : List ℕ) → RefusedBy ofBook (parseTerms k before bytes)
 unfolding parseTerms
 terms-refused zero before bytes = tt
 terms-refused (suc k) before bytes =
     then-refused ofBook (parseNumber bytes) _ (number-refused bytes)
-    (λ tag rest. then-refused ofBook (parseNode before tag rest) _ (node-refused before tag rest) (λ n rest′. terms-refused k (before ++ n ∷ []) rest′))
+    (λ tag rest. then-refused ofBook (parseNode (length before) tag rest) _ (node-refused (length before) tag rest) (λ n rest′. terms-refused k (before ++ n ∷ []) rest′))
 
 pub book-refused : (lim : Limits) (bytes : List ℕ) → RefusedBy ofBook (parseBook lim bytes)
 unfolding parseWritten
@@ -101,7 +100,7 @@ Positive p = RefusedBy (λ n. not (eqb n 0)) p
 pub book-positive : (lim : Limits) (bytes : List ℕ) → Positive (parseBook lim bytes)
 book-positive lim bytes =
     refused-too ofBook (λ n. not (eqb n 0))
-    (λ n h. rw (ne-eqb n 0 (λ e. omega (arith, leb→le 1 n (and-left (leb 1 n) (leb n 6) h)))) tt) (parseBook lim bytes) (book-refused lim bytes)
+    (λ n h. rw (ne-eqb n 0 (λ e. omega (arith, leb→le 1 n (and-left (leb 1 n) (leb n 5) h)))) tt) (parseBook lim bytes) (book-refused lim bytes)
 
 -- opening at a capacity in its range, on an area that is long enough, is decided by the book
 pub opens-by-book : (lim : Limits) (capacity : ℕ) (book area : List ℕ) → Openable lim capacity area

@@ -18,12 +18,12 @@ use Rattle.model.specs.Lists.{all, concatMap, isEmpty}
 use Rattle.model.specs.Term.{Node, var, app, symbol, arguments, alike, Book, Bindings, endsStep, ends}
 use Rattle.model.specs.Step.{opened}
 use Rattle.model.specs.Report.{numberBytes}
-use Rattle.model.specs.BookBytes.{parsed, fromRead, parseNumber, arityFits, parseArguments, parseApp, parseNode, parseTerms, parseWritten, parseBook, asWritten, nodeNumbers, bookBytes}
+use Rattle.model.specs.BookBytes.{parsed, fromRead, parseNumber, parseArguments, parseApp, parseNode, parseTerms, parseWritten, parseBook, asWritten, nodeNumbers, bookBytes}
 use Rattle.theory.proofs.Lists.Laws.{T-true, all-at, all-intro, concatMap-append}
 use Rattle.theory.proofs.Book.Written.{parsed-as-written, written-bytes}
 use Rattle.theory.proofs.Book.Gives.{Gives, gives-at, need-gives, andThen-gives, andThen-any}
 use Rattle.theory.proofs.Lists.AreBytes.{bytes-behind}
-use Rattle.theory.proofs.Soundness.Facts.{Formed, TableRight, SoundFacts}
+use Rattle.theory.proofs.Soundness.Facts.{NodeRight, Formed, TableRight, SoundFacts}
 
 -- The bytes are those of the numbers ns, and the rest.
 pub record Wrote (bytes ns rest : List ℕ) : Type 0 where
@@ -69,16 +69,15 @@ module _ (bytes : List ℕ) where
       (rw append-snoc at (u .0), ap suc (u .1))
 
   -- a term's numbers: its first is read before them
-  node-written : (before : Book) (tag : ℕ) (ns mid : List ℕ) → Wrote bytes (ns ++ tag ∷ []) mid
-      → Gives (parseNode before tag mid) (λ n rest. Wrote bytes (ns ++ nodeNumbers n) rest)
+  node-written : (t tag : ℕ) (ns mid : List ℕ) → Wrote bytes (ns ++ tag ∷ []) mid
+      → Gives (parseNode t tag mid) (λ n rest. Wrote bytes (ns ++ nodeNumbers n) rest)
   unfolding parseNode parseApp nodeNumbers
-  node-written before zero ns mid w = w
-  node-written before (suc s) ns mid w =
+  node-written t zero ns mid w = w
+  node-written t (suc s) ns mid w =
       need-gives _ (leb s maxSymbol) 4 _ λ l.
       andThen-gives _ _ (parseNumber mid) _ (number-written (ns ++ suc s ∷ []) mid w) λ c rest v.
       need-gives _ (leb c maxArity) 4 _ λ l′.
-      need-gives _ (all (arityFits s c) before) 6 _ λ f.
-      andThen-gives _ _ (parseArguments (length before) c rest) _ (arguments-written (length before) c (ns ++ suc s ∷ [] ++ c ∷ []) rest v) λ args rest′ u.
+      andThen-gives _ _ (parseArguments t c rest) _ (arguments-written t c (ns ++ suc s ∷ [] ++ c ∷ []) rest v) λ args rest′ u.
       rw (u .1) (simp append-assoc at (u .0))
 
   -- the terms' numbers, where those of the terms before them are read: x terms in all
@@ -88,7 +87,7 @@ module _ (bytes : List ℕ) where
   terms-written zero x before mid e w = let e′ : length before ≡ x = omega arith in rw e′ w
   terms-written (suc k) x before mid e w =
       andThen-gives _ _ (parseNumber mid) _ (number-written (x ∷ concatMap nodeNumbers before) mid w) λ tag rest v.
-      andThen-gives _ _ (parseNode before tag rest) _ (node-written before tag (x ∷ concatMap nodeNumbers before) rest v) λ n rest′ u.
+      andThen-gives _ _ (parseNode (length before) tag rest) _ (node-written (length before) tag (x ∷ concatMap nodeNumbers before) rest v) λ n rest′ u.
       terms-written k x (before ++ n ∷ []) rest′ (omega (arith, length-append before (n ∷ []))) (rw (concatMap-append, append-nil) u)
 
 -- an empty list has no element
@@ -132,20 +131,6 @@ unbound-none b t = List·getD-map (λ (n : Node). none) b t var
 pub nothing-bound : (b : Book) (t u : ℕ) → getD (map (λ (n : Node). none) b) t none ≡ some u → ⊥
 nothing-bound b t u e = let z : _≡_ {A = ℕ} 0 1 = cc (unbound-none b t) in omega arith
 
--- A term that may stand after those of b.
-record Fitting (b : Book) (n : Node) : Type 0 where
-  lower : (i : ℕ) → i < length (arguments n) → getD (arguments n) i 0 < length b
-  agrees : (t : ℕ) → t < length b → T (alike n (getD b t var)) → length (arguments n) ≡ length (arguments (getD b t var))
-  small-arity : length (arguments n) ≤ maxArity
-  small-symbol : symbol n ≤ maxSymbol
-
--- being of one symbol goes both ways
-alike-sym : (x y : Node) → T (alike x y) → T (alike y x)
-unfolding alike
-alike-sym var y h = absurd h
-alike-sym (app s args) var h = h
-alike-sym (app s args) (app s′ args′) h = rw (eqb→eq s s′ h) (eqb-refl s′)
-
 -- what holds of each term of b and of n behind them holds of each term of both
 snoc-cases : (P : ℕ → Node → Type 0) (b : Book) (n : Node) → ((t : ℕ) → t < length b → P t (getD b t var)) → P (length b) n
     → (t : ℕ) → t < length (b ++ n ∷ []) → P t (getD (b ++ n ∷ []) t var)
@@ -155,24 +140,12 @@ snoc-cases P b n old new t l = go (decLt t (length b))
     go (yes h) = rw (List·getD-append b (n ∷ []) var t h) (old t h)
     go (no h) = let e : length b ≡ t = omega (arith, length-append b (n ∷ [])) in rw (getD-at b n [] var t e) (rw e at new)
 
-module _ (b : Book) (n : Node) (f : Formed b (unbound b)) (g : Fitting b n) where
-  -- two terms of one symbol, with one more term that fits
-  snoc-counts : (t u : ℕ) → t < length (b ++ n ∷ []) → u < length (b ++ n ∷ [])
-      → T (alike (getD (b ++ n ∷ []) t var) (getD (b ++ n ∷ []) u var))
-      → length (arguments (getD (b ++ n ∷ []) t var)) ≡ length (arguments (getD (b ++ n ∷ []) u var))
-  snoc-counts t u l k =
-      snoc-cases (λ t x. T (alike x (getD (b ++ n ∷ []) u var)) → length (arguments x) ≡ length (arguments (getD (b ++ n ∷ []) u var))) b n
-      (λ t l. snoc-cases (λ u y. T (alike (getD b t var) y) → length (arguments (getD b t var)) ≡ length (arguments y)) b n
-      (λ u k. f .one-arity t u l k) (λ h. sym (g .agrees t l (alike-sym (getD b t var) n h))) u k)
-      (snoc-cases (λ u y. T (alike n y) → length (arguments n) ≡ length (arguments y)) b n (g .agrees) (λ h. refl) u k)
-      t l
-
+module _ (b : Book) (n : Node) (f : Formed b (unbound b)) (g : NodeRight (length b) n) where
   -- the rules hold with one more term that fits
   snoc-formed : Formed (b ++ n ∷ []) (unbound (b ++ n ∷ []))
   snoc-formed = record {
     same-length = length-map (b ++ n ∷ []) (λ (n : Node). none);
     lower = snoc-cases (λ t x. (i : ℕ) → i < length (arguments x) → getD (arguments x) i 0 < t) b n (f .lower) (g .lower);
-    one-arity = snoc-counts;
     small-arity = snoc-cases (λ t x. length (arguments x) ≤ maxArity) b n (f .small-arity) (g .small-arity);
     small-symbol = snoc-cases (λ t x. symbol x ≤ maxSymbol) b n (f .small-symbol) (g .small-symbol);
     bound-var = λ t u e. absurd (nothing-bound (b ++ n ∷ []) t u e);
@@ -183,7 +156,6 @@ pub empty-formed : Formed [] []
 empty-formed = record {
   same-length = refl;
   lower = λ t l. absurd (not-suc-le-zero l);
-  one-arity = λ t u l. absurd (not-suc-le-zero l);
   small-arity = λ t l. absurd (not-suc-le-zero l);
   small-symbol = λ t l. absurd (not-suc-le-zero l);
   bound-var = λ t u e. absurd (nothing-bound [] t u e);
@@ -206,26 +178,17 @@ arguments-lower t (suc c) bytes =
     andThen-gives _ _ (parseArguments t c rest) _ (arguments-lower t c rest) λ args rest′ u.
     (cons-lower a t args (ltb→lt a t l) (u .0), ap suc (u .1))
 
--- a node that agrees with symbol s having c arguments has c of them where it has that symbol
-arity-agrees : (s c : ℕ) (args : List ℕ) (x : Node) → T (arityFits s c x) → T (alike (app s args) x) → c ≡ length (arguments x)
-unfolding arityFits alike arguments
-arity-agrees s c args var h g = absurd g
-arity-agrees s c args (app s′ args′) h g = eqb→eq c (length args′) (rw (T-true (eqb s s′) g) at h)
-
 -- a term that is decoded fits
-node-fits : (before : Book) (tag : ℕ) (bytes : List ℕ) → Gives (parseNode before tag bytes) (λ n rest. Fitting before n)
-unfolding parseNode parseApp arguments alike symbol
-node-fits before zero bytes = record
-    { lower = λ i l. absurd (not-suc-le-zero l); agrees = λ t l h. absurd h; small-arity = zero-le; small-symbol = zero-le }
-node-fits before (suc s) bytes =
+node-fits : (t tag : ℕ) (bytes : List ℕ) → Gives (parseNode t tag bytes) (λ n rest. NodeRight t n)
+unfolding parseNode parseApp arguments symbol
+node-fits t zero bytes = record { lower = λ i l. absurd (not-suc-le-zero l); small-arity = zero-le; small-symbol = zero-le }
+node-fits t (suc s) bytes =
     need-gives _ (leb s maxSymbol) 4 _ λ l.
     andThen-any _ (parseNumber bytes) _ λ c rest.
     need-gives _ (leb c maxArity) 4 _ λ k.
-    need-gives _ (all (arityFits s c) before) 6 _ λ f.
-    andThen-gives _ _ (parseArguments (length before) c rest) _ (arguments-lower (length before) c rest) λ args rest′ u.
+    andThen-gives _ _ (parseArguments t c rest) _ (arguments-lower t c rest) λ args rest′ u.
     record {
       lower = u .0;
-      agrees = λ t h g. u .1 ∙ arity-agrees s c args (getD before t var) (all-at (arityFits s c) before var f t h) g;
       small-arity = rw (u .1) (leb→le c maxArity k);
       small-symbol = leb→le s maxSymbol l;
     }
@@ -237,7 +200,7 @@ unfolding parseTerms
 terms-formed zero x before bytes e f = (f, omega arith)
 terms-formed (suc k) x before bytes e f =
     andThen-any _ (parseNumber bytes) _ λ tag rest.
-    andThen-gives _ _ (parseNode before tag rest) _ (node-fits before tag rest) λ n rest′ g.
+    andThen-gives _ _ (parseNode (length before) tag rest) _ (node-fits (length before) tag rest) λ n rest′ g.
     terms-formed k x (before ++ n ∷ []) rest′ (omega (arith, length-append before (n ∷ []))) (snoc-formed before n f g)
 
 -- a book that is decoded obeys the rules of terms, and is not too long

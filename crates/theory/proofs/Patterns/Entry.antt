@@ -5,17 +5,17 @@ use mathlib.Core.List.{List, [], _∷_}
 use mathlib.Core.Bool.{Bool, false, _&&_}
 use Prim.Native.Nat.{ℕ, zero, suc, _≤_, _<_, zero-le, suc-le-suc}
 use native.Mathlib.Omega.{arith}
-use borrow.Author.Tests.{eqb-true}
+use lib.Dec.{eqb, eqb→eq}
 use lib.ListN.{length, getD}
 use Rattle.model.specs.Limits.{Limits}
 use Rattle.model.specs.Lists.{first}
-use Rattle.model.specs.Term.{Node, var, app, symbol, arguments, alike, Book, Bindings, Tree, free, node, Trees, more, trees, eqTree, val, root}
+use Rattle.model.specs.Term.{Node, var, app, symbol, arguments, alike, Book, Bindings, Tree, free, node, Trees, more, count, trees, eqTree, val, root}
 use Rattle.model.specs.Table.{Kind, hole, common, Entry, Table, holeAt, entry, holds, entryOf}
 use Rattle.model.specs.Step.{State}
 use Rattle.model.specs.Pattern.{Pattern, variable, apply, Patterns, then, fill, fillAll, patterns, readingStep, reading, leftValue, rightValue}
-use Rattle.theory.proofs.Lists.Laws.{first-holds, first-least}
+use Rattle.theory.proofs.Lists.Laws.{and-left, true-T, first-holds, first-least}
 use Rattle.theory.proofs.Soundness.Facts.{Has, CommonRight, KindRight, SoundFacts}
-use Rattle.theory.proofs.Values.Equations.{holds-eq, eq-holds, alikeTrees, alike-values, root-app}
+use Rattle.theory.proofs.Values.Equations.{holds-eq, eq-holds, alikeTrees, alike-values, root-app, count-trees}
 use Rattle.theory.proofs.Patterns.Lgg.{lgg, lggAll, lgg-variable, lgg-apply}
 use Rattle.theory.proofs.Values.Heights.{height, height-at}
 
@@ -58,13 +58,13 @@ module _ (class : Tree → Tree → ℕ) (σ τ : ℕ → Tree) where
       }
 
   -- a symbol over them
-  reads-over : (s : ℕ) (ps : Patterns) (ts us : Trees) → ReadsAll ps ts us → Reads (apply s ps) (node s ts) (node s us)
+  reads-over : (s : ℕ) (ps : Patterns) (ts us : Trees) → count ts ≡ count us → ReadsAll ps ts us → Reads (apply s ps) (node s ts) (node s us)
   unfolding fill
-  reads-over s ps ts us h =
+  reads-over s ps ts us e h =
       record {
         left = ap (node s) (h .left);
         right = ap (node s) (h .right);
-        least = ap (apply s) (h .least) ∙ sym (lgg-apply class s ts us);
+        least = ap (apply s) (h .least) ∙ sym (lgg-apply class s ts us e);
       }
 
 -- the lowest entry with the values of entry i has them
@@ -115,11 +115,12 @@ module _ (lim : Limits) (s : State) (sound : SoundFacts lim s) where
       reads-common c args (app a ls) var p q g = let z : _≡_ {A = ℕ} 0 1 = cc (g .alike-roots) in absurd (omega arith)
       reads-common c args (app a ls) (app a′ rs) p q g =
           let e : a ≡ c = sym (g .the-symbol) in
-          let e′ : a′ ≡ c = sym (eqb-true a a′ (g .alike-roots)) ∙ e in
+          let e′ : a′ ≡ c = sym (eqb→eq a a′ (and-left (eqb a a′) _ (true-T _ (g .alike-roots)))) ∙ e in
           let x : leftValue s i ≡ node c (trees v ls) = val-root (entry (s .entries) i .left) a ls (sound .table .left-term i here) p ∙ rw e in
           let y : rightValue s i ≡ node c (trees v rs) = val-root (entry (s .entries) i .right) a′ rs (sound .table .right-term i here) q ∙ rw e′ in
           rw (x, y)
           (reads-over (class s) (leftValue s) (rightValue s) c (patterns f args) (trees v ls) (trees v rs)
+          (count-trees v ls ∙ sym (g .count-left) ∙ g .count-right ∙ sym (count-trees v rs))
           (reads-all (class s) (leftValue s) (rightValue s) f v args ls rs (g .count-left) (g .count-right) (argument x)))
         where
           v : ℕ → Tree

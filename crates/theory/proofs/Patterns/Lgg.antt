@@ -1,13 +1,19 @@
 -- The least general generalization of two values, and why it is the least. Assumes nothing.
 use mathlib.Core.Path.{_≡_, refl, ap, ap₂, sym, _∙_}
 use mathlib.Core.List.{List, [], _∷_, map}
-use mathlib.Core.Bool.{false, cond}
-use Prim.Native.Nat.{ℕ}
+use mathlib.Core.Bool.{false, cond, _&&_}
+use Prim.Native.Nat.{ℕ, suc}
 use lib.Dec.{eqb}
 use borrow.Author.Tests.{eq-eqb}
-use Rattle.model.specs.Term.{Tree, free, node, Trees, nil, more}
+use Rattle.model.specs.Term.{Tree, free, node, Trees, nil, more, count}
 use Rattle.model.specs.Pattern.{Pattern, variable, apply, Patterns, end, then, fill, fillAll, refine, refineAll}
 use Rattle.theory.proofs.Values.Equations.{alikeTrees}
+
+-- two fillings give one list of patterns as many values
+pub fill-counts : (σ τ : ℕ → Tree) (qs : Patterns) → count (fillAll σ qs) ≡ count (fillAll τ qs)
+unfolding fill fillAll count
+fill-counts σ τ end = refl
+fill-counts σ τ (then q qs) = ap suc (fill-counts σ τ qs)
 
 -- `class` numbers the open place of each pair of values
 module _ (class : Tree → Tree → ℕ) where
@@ -15,7 +21,7 @@ module _ (class : Tree → Tree → ℕ) where
     pub lgg : Tree → Tree → Pattern
     lgg (free x) u = variable (class (free x) u)
     lgg (node s ts) (free y) = variable (class (node s ts) (free y))
-    lgg (node s ts) (node s′ us) = cond (eqb s s′) (apply s (lggAll ts us)) (variable (class (node s ts) (node s′ us)))
+    lgg (node s ts) (node s′ us) = cond (eqb s s′ && eqb (count ts) (count us)) (apply s (lggAll ts us)) (variable (class (node s ts) (node s′ us)))
 
     pub lggAll : Trees → Trees → Patterns
     lggAll nil us = end
@@ -29,9 +35,9 @@ module _ (class : Tree → Tree → ℕ) where
   lgg-variable (node s ts) (free y) h = refl
   lgg-variable (node s ts) (node s′ us) h = rw h
 
-  pub lgg-apply : (s : ℕ) (ts us : Trees) → lgg (node s ts) (node s us) ≡ apply s (lggAll ts us)
+  pub lgg-apply : (s : ℕ) (ts us : Trees) → count ts ≡ count us → lgg (node s ts) (node s us) ≡ apply s (lggAll ts us)
   unfolding lgg
-  lgg-apply s ts us = rw (eq-eqb s s refl)
+  lgg-apply s ts us e = rw (eq-eqb s s refl, eq-eqb (count ts) (count us) e)
 
   -- whatever covers both values by σ and τ becomes their generalization by one filling
   module _ (σ τ : ℕ → Tree) where
@@ -40,7 +46,7 @@ module _ (class : Tree → Tree → ℕ) where
 
       pub least : (q : Pattern) → refine (λ x. lgg (σ x) (τ x)) q ≡ lgg (fill σ q) (fill τ q)
       least (variable x) = refl
-      least (apply s qs) = ap (apply s) (leastAll qs) ∙ sym (lgg-apply s (fillAll σ qs) (fillAll τ qs))
+      least (apply s qs) = ap (apply s) (leastAll qs) ∙ sym (lgg-apply s (fillAll σ qs) (fillAll τ qs) (fill-counts σ τ qs))
 
       leastAll : (qs : Patterns) → refineAll (λ x. lgg (σ x) (τ x)) qs ≡ lggAll (fillAll σ qs) (fillAll τ qs)
       leastAll end = refl

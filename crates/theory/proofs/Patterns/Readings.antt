@@ -25,7 +25,7 @@ module _ (lim : Limits) (s : State) (sound : SoundFacts lim s) where
       reads-entry lim s sound n i here low .least ∙ sym (reads-entry lim s sound (suc n) i here (omega arith) .least)
 
   -- so each entry reads as the rules say
-  reads-as : ReadsAs s
+  pub reads-as : ReadsAs s
   unfolding readingStep
   reads-as = record { of-common = λ i c args here k. reading-step i here ∙ rw k; of-hole = λ i here k. reading-step i here ∙ rw k }
 

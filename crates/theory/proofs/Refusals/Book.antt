@@ -12,8 +12,8 @@ use Rattle.leb128.specs.Number.{maxGroups, maxNumber, Read, number, cut, invali
 use Rattle.model.specs.Limits.{Limits, maxArity, maxSymbol}
 use Rattle.model.specs.Lists.{all}
 use Rattle.model.specs.Term.{Node, var, app, Book}
-use Rattle.model.specs.BookBytes.{Parsed, parsed, unparsed, andThen, need, fromRead, parseNumber, arityFits, parseArguments, parseApp, parseNode, parseTerms, parseWritten, parseBook}
-use Rattle.theory.specs.Tests.{Test, Decides, refuses, valueOf, restOf, numberTests, argumentTests, OneCount, nodeTests, termsTests, writtenTests, bookTests}
+use Rattle.model.specs.BookBytes.{Parsed, parsed, unparsed, andThen, need, fromRead, parseNumber, parseArguments, parseApp, parseNode, parseTerms, parseWritten, parseBook}
+use Rattle.theory.specs.Tests.{Test, Decides, refuses, valueOf, restOf, numberTests, argumentTests, nodeTests, termsTests, writtenTests, bookTests}
 use Rattle.theory.proofs.Lists.Laws.{all-at, all-intro, T-true, true-T}
 use Rattle.theory.proofs.Refusals.Deciding.{Tells, holds, fails, tells, tells-lt, tells-le, tells-empty}
 
@@ -72,52 +72,21 @@ arguments-follow t (suc c) bytes =
     (then-follows (parseArguments t c rest) (argumentTests t c rest) _ (λ args rest′ next. next (a ∷ args) rest′)
     (arguments-follow t c rest) (λ args rest′ next n d. d)))
 
--- one count for a symbol, at one node
-fits-count : (s c : ℕ) (args : List ℕ) → T (arityFits s c (app s args)) → length args ≡ c
-unfolding arityFits
-fits-count s c args h =
-    let e : eqb s s ≡ true = eq-eqb s s refl in
-    let g : T (eqb c (length args)) = rw e at h in
-    let d : c ≡ length args = eqb-true c (length args) (T-true _ g) in
-    omega arith
-
-count-fits-at : (s c s′ : ℕ) (args : List ℕ) → (s ≡ s′ → length args ≡ c) → (t : Bool) → eqb s s′ ≡ t → T (cond t (eqb c (length args)) true)
-count-fits-at s c s′ args h true e =
-    let d : length args ≡ c = h (eqb-true s s′ e) in true-T _ (eq-eqb c (length args) (omega arith))
-count-fits-at s c s′ args h false e = tt
-
-count-fits : (s c : ℕ) (n : Node) → ((args : List ℕ) → n ≡ app s args → length args ≡ c) → T (arityFits s c n)
-unfolding arityFits
-count-fits s c var h = tt
-count-fits s c (app s′ args) h = count-fits-at s c s′ args (λ e. h args (rw e)) (eqb s s′) refl
-
-tells-count : (s c : ℕ) (before : Book) → Tells (OneCount before s c) (all (arityFits s c) before)
-tells-count s c before =
-    tells
-    (λ e t args l d. fits-count s c args (rw d at (all-at (arityFits s c) before var (true-T _ e) t l)))
-    (λ e h. absurd
-    (subst-T e (all-intro (arityFits s c) before var (λ t l. count-fits s c (getD before t var) (λ args d. h t args l d)))))
-  where
-    subst-T : {b : Bool} → b ≡ false → T b → ⊥
-    subst-T e h = rw e at h
-
 -- a term
-node-follows : (before : Book) (tag : ℕ) (bytes : List ℕ) → Follows (parseNode before tag bytes) (nodeTests before tag bytes)
+node-follows : (t tag : ℕ) (bytes : List ℕ) → Follows (parseNode t tag bytes) (nodeTests t tag bytes)
 unfolding parseNode parseApp
-node-follows before zero bytes = λ next n d. d
-node-follows before (suc s) bytes =
+node-follows t zero bytes = λ next n d. d
+node-follows t (suc s) bytes =
     need-follows 4 (tells-le s maxSymbol) _
-    (λ next. numberTests bytes (λ c rest. refuses 4 (c ≤ maxArity) (refuses 6 (OneCount before s c)
-    (argumentTests (length before) c rest (λ args rest′. next (app s args) rest′)))))
+    (λ next. numberTests bytes (λ c rest. refuses 4 (c ≤ maxArity)
+    (argumentTests t c rest (λ args rest′. next (app s args) rest′))))
     (then-follows (parseNumber bytes) (numberTests bytes) _
-    (λ c rest next. refuses 4 (c ≤ maxArity) (refuses 6 (OneCount before s c)
-    (argumentTests (length before) c rest (λ args rest′. next (app s args) rest′)))) (number-follows bytes)
+    (λ c rest next. refuses 4 (c ≤ maxArity)
+    (argumentTests t c rest (λ args rest′. next (app s args) rest′))) (number-follows bytes)
     (λ c rest. need-follows 4 (tells-le c maxArity) _
-    (λ next. refuses 6 (OneCount before s c) (argumentTests (length before) c rest (λ args rest′. next (app s args) rest′)))
-    (need-follows 6 (tells-count s c before) _
-    (λ next. argumentTests (length before) c rest (λ args rest′. next (app s args) rest′))
-    (then-follows (parseArguments (length before) c rest) (argumentTests (length before) c rest) _
-    (λ args rest′ next. next (app s args) rest′) (arguments-follow (length before) c rest) (λ args rest′ next n d. d)))))
+    (λ next. argumentTests t c rest (λ args rest′. next (app s args) rest′))
+    (then-follows (parseArguments t c rest) (argumentTests t c rest) _
+    (λ args rest′ next. next (app s args) rest′) (arguments-follow t c rest) (λ args rest′ next n d. d))))
 
 -- all terms
 terms-follow : (k : ℕ) (before : Book) (bytes : List ℕ) → Follows (parseTerms k before bytes) (termsTests k before bytes)
@@ -125,9 +94,9 @@ unfolding parseTerms
 terms-follow zero before bytes = λ next n d. d
 terms-follow (suc k) before bytes =
     then-follows (parseNumber bytes) (numberTests bytes) _
-    (λ tag rest next. nodeTests before tag rest (λ n rest′. termsTests k (before ++ n ∷ []) rest′ next)) (number-follows bytes)
-    (λ tag rest. then-follows (parseNode before tag rest) (nodeTests before tag rest) _
-    (λ n rest′ next. termsTests k (before ++ n ∷ []) rest′ next) (node-follows before tag rest)
+    (λ tag rest next. nodeTests (length before) tag rest (λ n rest′. termsTests k (before ++ n ∷ []) rest′ next)) (number-follows bytes)
+    (λ tag rest. then-follows (parseNode (length before) tag rest) (nodeTests (length before) tag rest) _
+    (λ n rest′ next. termsTests k (before ++ n ∷ []) rest′ next) (node-follows (length before) tag rest)
     (λ n rest′. terms-follow k (before ++ n ∷ []) rest′))
 
 -- the whole book

@@ -12,11 +12,10 @@ use lib.Dec.{T, eqb, ltb, leb, leb→le, le→leb, ltb→lt, lt→ltb, eqb→eq,
 use Rattle.model.specs.Limits.{maxArity, maxSymbol}
 use Rattle.model.specs.Lists.{all, from}
 use Rattle.model.specs.Term.{Node, var, app, symbol, arguments, alike, Book, Bindings, ends, acyclic}
-use Rattle.model.specs.BookBytes.{arityFits}
 use Rattle.model.specs.Area.{nodeOk, bindingOk, termsOk}
 use Rattle.theory.proofs.Lists.Laws.{and-both, all-at, all-intro, length-from, getD-from}
-use Rattle.theory.proofs.Lists.Conjunctions.{and₂, and₄}
-use Rattle.theory.proofs.Soundness.Facts.{Formed, Acyclic}
+use Rattle.theory.proofs.Lists.Conjunctions.{and₂, and₃}
+use Rattle.theory.proofs.Soundness.Facts.{NodeRight, Formed, Acyclic}
 
 -- a test holds for all numbers below n exactly when it holds for each
 pub all-below : (p : ℕ → Bool) (n : ℕ) → T (all p (from 0 n)) → (i : ℕ) → i < n → T (p i)
@@ -26,59 +25,26 @@ pub below-all : (p : ℕ → Bool) (n : ℕ) → ((i : ℕ) → i < n → T (p i
 below-all p n h =
     all-intro p (from 0 n) 0 (λ i l. let k : i < n = rw length-from at l in rw (getD-from 0 n i 0 k, zero-add) (h i k))
 
--- a test that matters only where another holds
-cond-true : (p q : Bool) → T (cond p q true) → T p → T q
-cond-true true q h g = h
-cond-true false q h g = absurd g
-
-true-cond : (p q : Bool) → (T p → T q) → T (cond p q true)
-true-cond true q h = h tt
-true-cond false q h = tt
-
--- the count of a symbol fits a node exactly when a node of the same symbol has that count
-fits-count : (s : ℕ) (args : List ℕ) (n : Node) → T (arityFits s (length args) n) → T (alike (app s args) n)
-    → length args ≡ length (arguments n)
-unfolding arityFits alike arguments
-fits-count s args var h g = absurd g
-fits-count s args (app s′ args′) h g = eqb→eq (length args) (length args′) (cond-true (eqb s s′) (eqb (length args) (length args′)) h g)
-
-count-fits : (s : ℕ) (args : List ℕ) (n : Node) → (T (alike (app s args) n) → length args ≡ length (arguments n))
-    → T (arityFits s (length args) n)
-unfolding arityFits alike arguments
-count-fits s args var h = tt
-count-fits s args (app s′ args′) h =
-    true-cond (eqb s s′) (eqb (length args) (length args′)) (λ g. subst (λ (k : ℕ). T (eqb (length args) k)) (h g) (eqb-refl (length args)))
-
--- node n as term t of the book b obeys the rules of terms
-record NodeFacts (b : Book) (t : ℕ) (n : Node) : Type 0 where
-  small-symbol : symbol n ≤ maxSymbol
-  small-arity : length (arguments n) ≤ maxArity
-  lower : (i : ℕ) → i < length (arguments n) → getD (arguments n) i 0 < t
-  one-arity : (u : ℕ) → u < length b → T (alike n (getD b u var)) → length (arguments n) ≡ length (arguments (getD b u var))
-
-node-facts : (b : Book) (t : ℕ) (n : Node) → T (nodeOk b t n) → NodeFacts b t n
-unfolding nodeOk symbol arguments alike
-node-facts b t var h =
-    record { small-symbol = zero-le; small-arity = zero-le; lower = λ i l. omega arith; one-arity = λ u l g. absurd g }
-node-facts b t (app s args) h =
-    let f : _ =
-    and₄ (leb s maxSymbol) (leb (length args) maxArity) (all (λ a. ltb a t) args) (all (arityFits s (length args)) b) .0 h in
+-- a node passes exactly when it obeys the rules of terms
+node-facts : (t : ℕ) (n : Node) → T (nodeOk t n) → NodeRight t n
+unfolding nodeOk symbol arguments
+node-facts t var h = record { small-symbol = zero-le; small-arity = zero-le; lower = λ i l. omega arith }
+node-facts t (app s args) h =
+    let f : _ = and₃ (leb s maxSymbol) (leb (length args) maxArity) (all (λ a. ltb a t) args) .0 h in
     record {
       small-symbol = leb→le s maxSymbol (f .0);
       small-arity = leb→le (length args) maxArity (f .1);
       lower = λ i l. ltb→lt (getD args i 0) t (all-at (λ a. ltb a t) args 0 (f .2) i l);
-      one-arity = λ u l. fits-count s args (getD b u var) (all-at (arityFits s (length args)) b var (f .3) u l);
     }
 
-facts-node : (b : Book) (t : ℕ) (n : Node) → NodeFacts b t n → T (nodeOk b t n)
-unfolding nodeOk symbol arguments alike
-facts-node b t var f = tt
-facts-node b t (app s args) f =
-    and₄ (leb s maxSymbol) (leb (length args) maxArity) (all (λ a. ltb a t) args) (all (arityFits s (length args)) b) .1 (
+facts-node : (t : ℕ) (n : Node) → NodeRight t n → T (nodeOk t n)
+unfolding nodeOk symbol arguments
+facts-node t var f = tt
+facts-node t (app s args) f =
+    and₃ (leb s maxSymbol) (leb (length args) maxArity) (all (λ a. ltb a t) args) .1 (
       le→leb s maxSymbol (f .small-symbol),
       le→leb (length args) maxArity (f .small-arity),
       all-intro (λ a. ltb a t) args 0 (λ i l. lt→ltb (getD args i 0) t (f .lower i l)),
-      all-intro (arityFits s (length args)) b var (λ u l. count-fits s args (getD b u var) (f .one-arity u l)),
     )
 
 -- a binding is right exactly when only a variable is bound, and to a term
@@ -108,7 +74,7 @@ module _ (b : Book) (β : Bindings) where
 
   -- whether term t passes
   termOk : ℕ → Bool
-  termOk t = nodeOk b t (getD b t var) && bindingOk b (getD b t var) (getD β t none)
+  termOk t = nodeOk t (getD b t var) && bindingOk b (getD b t var) (getD β t none)
 
   -- the terms pass exactly when they are formed, and no value contains itself exactly when that test says so
   pub formed-facts : length β ≡ length b → T (termsOk b β) → Formed b β
@@ -117,34 +83,32 @@ module _ (b : Book) (β : Bindings) where
       record {
         same-length = e;
         lower = λ t l. node t l .lower;
-        one-arity = λ t u l k. node t l .one-arity u k;
         small-arity = λ t l. node t l .small-arity;
         small-symbol = λ t l. node t l .small-symbol;
         bound-var = λ t u q. binding-facts b (getD b t var) (getD β t none) (term t (bound-lt e t u q) .1) u q;
       }
     where
-      term : (t : ℕ) → t < length b → T (nodeOk b t (getD b t var)) × T (bindingOk b (getD b t var) (getD β t none))
-      term t l = and₂ (nodeOk b t (getD b t var)) (bindingOk b (getD b t var) (getD β t none)) .0 (all-below termOk (length b) h t l)
+      term : (t : ℕ) → t < length b → T (nodeOk t (getD b t var)) × T (bindingOk b (getD b t var) (getD β t none))
+      term t l = and₂ (nodeOk t (getD b t var)) (bindingOk b (getD b t var) (getD β t none)) .0 (all-below termOk (length b) h t l)
 
-      node : (t : ℕ) → t < length b → NodeFacts b t (getD b t var)
-      node t l = node-facts b t (getD b t var) (term t l .0)
+      node : (t : ℕ) → t < length b → NodeRight t (getD b t var)
+      node t l = node-facts t (getD b t var) (term t l .0)
 
   pub facts-formed : Formed b β → T (termsOk b β)
   unfolding termsOk termOk
   facts-formed f = below-all termOk (length b) term
     where
-      node : (t : ℕ) → t < length b → NodeFacts b t (getD b t var)
+      node : (t : ℕ) → t < length b → NodeRight t (getD b t var)
       node t l =
           record {
             small-symbol = f .small-symbol t l;
             small-arity = f .small-arity t l;
             lower = f .lower t l;
-            one-arity = λ u k. f .one-arity t u l k;
           }
 
       term : (t : ℕ) → t < length b → T (termOk t)
       term t l =
-          and-both (nodeOk b t (getD b t var)) (bindingOk b (getD b t var) (getD β t none)) (facts-node b t (getD b t var) (node t l))
+          and-both (nodeOk t (getD b t var)) (bindingOk b (getD b t var) (getD β t none)) (facts-node t (getD b t var) (node t l))
           (facts-binding b (getD b t var) (getD β t none) (f .bound-var t))
 
   pub acyclic-facts : T (acyclic b β) → Acyclic b β

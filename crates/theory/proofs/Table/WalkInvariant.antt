@@ -146,7 +146,7 @@ module _ (b : Book) (β : Bindings) (formed : Formed b β) (acyclic : Acyclic b 
     -- the two sides have one count of arguments
     counts : length (arguments l) ≡ length (arguments r)
     counts =
-        alike-counts b β formed acyclic _ _ (w .holding .left-term i here) (w .holding .right-term i here) (true-T (alike l r) same)
+        alike-counts l r same
 
     -- what holds is kept by placing the argument pairs
     grown-holding : Holding b β (grown b β es i l r)

@@ -41,7 +41,6 @@ module _ (b : Book) (β : Bindings) (formed : Formed b β) (acyclic : Acyclic b 
       record {
         same-length = length-set β v (some t) ∙ formed .same-length;
         lower = formed .lower;
-        one-arity = formed .one-arity;
         small-arity = formed .small-arity;
         small-symbol = formed .small-symbol;
         bound-var = bound-var-set;

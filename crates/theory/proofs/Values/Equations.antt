@@ -1,7 +1,7 @@
 -- Values: fuel, the equations of values, roots, equality of trees, names. Assumes nothing.
 use mathlib.Core.Path.{_≡_, refl, ap, ap₂, sym, _∙_}
 use mathlib.Core.List.{List, [], _∷_}
-use mathlib.Core.Bool.{Bool, true, false}
+use mathlib.Core.Bool.{Bool, true, false, _&&_}
 use mathlib.Core.Option.{Option, none, some}
 use Prim.Native.Nat.{ℕ, zero, suc, _≤_, _<_}
 use native.Mathlib.Nat.{le-of-suc-le-suc, not-suc-le-zero}
@@ -9,9 +9,9 @@ use native.Mathlib.Omega.{arith}
 use lib.ListN.{length, getD}
 use lib.Dec.{T, eqb, eqb→eq, eqb-refl}
 use Rattle.model.specs.Lists.{all, first, from}
-use Rattle.model.specs.Term.{Node, var, app, symbol, arguments, alike, Book, Bindings, Tree, free, node, Trees, nil, more, trees, valueStep, value, endsStep, ends, derefStep, deref, eqTree, eqTrees, val, root, name}
+use Rattle.model.specs.Term.{Node, var, app, symbol, arguments, alike, Book, Bindings, Tree, free, node, Trees, nil, more, count, trees, valueStep, value, endsStep, ends, derefStep, deref, eqTree, eqTrees, val, root, name}
 use Rattle.model.specs.Table.{Entry, holds}
-use Rattle.theory.proofs.Lists.Laws.{and-left, and-right, and-both, first-holds, first-least, length-from, getD-from}
+use Rattle.theory.proofs.Lists.Laws.{and-left, and-right, and-both, T-true, true-T, first-holds, first-least, length-from, getD-from}
 use Rattle.theory.proofs.Soundness.Facts.{Formed, Acyclic}
 
 -- equality of trees is a test of equality
@@ -121,24 +121,20 @@ module _ (b : Book) (β : Bindings) where
   unfolding holds
   eq-holds l r e h g = rw (h, g) (and-both (eqTree (val b β l) (val b β l)) _ (eqTree-refl (val b β l)) (eqTree-refl (val b β r)))
 
--- whether two values have one root symbol
-unfoldable pub alikeTrees : Tree → Tree → Bool
-alikeTrees (free x) y = false
-alikeTrees (node s ts) (free y) = false
-alikeTrees (node s ts) (node s′ us) = eqb s s′
-
--- the root symbol of a tree (a free variable has 0), its subtrees (a free variable has none), their count and the one at j
+-- the root symbol of a tree (a free variable has 0), its subtrees (a free variable has none), and the one at j
 treeSymbol : Tree → ℕ
 treeSymbol (free x) = 0
 treeSymbol (node s ts) = s
 
-subtrees : Tree → Trees
+unfoldable pub subtrees : Tree → Trees
 subtrees (free x) = nil
 subtrees (node s ts) = ts
 
-count : Trees → ℕ
-count nil = 0
-count (more t ts) = suc (count ts)
+-- whether two values have one root symbol over as many subtrees
+unfoldable pub alikeTrees : Tree → Tree → Bool
+alikeTrees (free x) y = false
+alikeTrees (node s ts) (free y) = false
+alikeTrees (node s ts) (node s′ us) = eqb s s′ && eqb (count ts) (count us)
 
 treeAt : Trees → ℕ → Tree → Tree
 treeAt nil j d = d
@@ -146,7 +142,7 @@ treeAt (more t ts) zero d = t
 treeAt (more t ts) (suc j) d = treeAt ts j d
 
 -- of the trees that f gives: their count and the one at j
-count-trees : (f : ℕ → Tree) (args : List ℕ) → count (trees f args) ≡ length args
+pub count-trees : (f : ℕ → Tree) (args : List ℕ) → count (trees f args) ≡ length args
 unfolding count trees
 count-trees f [] = refl
 count-trees f (a ∷ args) = ap suc (count-trees f args)
@@ -162,6 +158,14 @@ record Stands (b : Book) (β : Bindings) (t d : ℕ) : Type 0 where
   present : d < length b
   same : val b β d ≡ val b β t
   unbound : getD b d var ≡ var → getD β d none ≡ none
+
+-- nodes that are alike have one count of arguments
+pub alike-counts : (m n : Node) → alike m n ≡ true → length (arguments m) ≡ length (arguments n)
+unfolding alike arguments
+alike-counts var n h = let z : _≡_ {A = ℕ} 0 1 = cc in absurd (omega arith)
+alike-counts (app s args) var h = let z : _≡_ {A = ℕ} 0 1 = cc in absurd (omega arith)
+alike-counts (app s args) (app s′ args′) h =
+    eqb→eq (length args) (length args′) (and-right (eqb s s′) (eqb (length args) (length args′)) (true-T _ h))
 
 module _ (b : Book) (β : Bindings) (formed : Formed b β) (acyclic : Acyclic b β) where
   -- the equations of values
@@ -224,18 +228,13 @@ module _ (b : Book) (β : Bindings) (formed : Formed b β) (acyclic : Acyclic b 
   -- roots are alike exactly when the values' root symbols are equal; then they have one count of arguments
   alike-roots : (l r : ℕ) → l < length b → r < length b → (m n : Node) → root b β l ≡ m → root b β r ≡ n
       → alike m n ≡ alikeTrees (val b β l) (val b β r)
-  unfolding alike alikeTrees
+  unfolding alike alikeTrees count
   alike-roots l r p q var n e g = rw (root-var l p e)
   alike-roots l r p q (app s args) var e g = rw (root-app l s args p e, root-var r q g)
-  alike-roots l r p q (app s args) (app s′ args′) e g = rw (root-app l s args p e, root-app r s′ args′ q g)
+  alike-roots l r p q (app s args) (app s′ args′) e g = rw (root-app l s args p e, root-app r s′ args′ q g, count-trees, count-trees)
 
   pub alike-values : (l r : ℕ) → l < length b → r < length b → alike (root b β l) (root b β r) ≡ alikeTrees (val b β l) (val b β r)
   alike-values l r p q = alike-roots l r p q (root b β l) (root b β r) refl refl
-
-  pub alike-counts : (l r : ℕ) → l < length b → r < length b → T (alike (root b β l) (root b β r))
-      → length (arguments (root b β l)) ≡ length (arguments (root b β r))
-  unfolding root
-  alike-counts l r p q h = formed .one-arity (deref b β (length b) l) (deref b β (length b) r) (deref-lt l p) (deref-lt r q) h
 
   -- the symbol and the arguments' values of a root are read off the value
   value-symbol : (t : ℕ) → t < length b → (n : Node) → root b β t ≡ n → treeSymbol (val b β t) ≡ symbol n

@@ -14,7 +14,7 @@ use Rattle.session.proofs.said.put_words.Tie as tie
 by-words : (line : List ℕ) (at k n : ℕ) → k ≡ n → {end : List ℕ} {next : ℕ} → Laid line at (words n) end next → Laid line at (words k) end next
 by-words line at k n e l = rw e l
 
-no-refusal : tie.Need-returns-8
+no-refusal : tie.Need-returns-7
 no-refusal c =
     let s = c .before .before in
     let e = no-words (s .args .refusal) (c .match .rest) in
@@ -38,8 +38,6 @@ put-words-spec =
     (λ c. search needs)
     (λ c κs. search needs)
     (λ c. search needs)
-    (λ c κs. search needs)
-    (λ c. search needs)
     (λ c. let call = c .before .before in by-words _ _ (call .before .before .before .before .before .args .refusal) 1 (search needs) (call .put-bytes .ensures))
     (λ c. search needs)
     (λ c. let call = c .before .before in by-words _ _ (call .before .before .before .before .before .args .refusal) 2 (search needs) (call .put-bytes2 .ensures))
@@ -50,7 +48,5 @@ put-words-spec =
     (λ c. search needs)
     (λ c. let call = c .before .before in by-words _ _ (call .before .before .before .before .before .args .refusal) 5 (search needs) (call .put-bytes5 .ensures))
     (λ c. search needs)
-    (λ c. let call = c .before .before in by-words _ _ (call .before .before .before .before .before .args .refusal) 6 (search needs) (call .put-bytes6 .ensures))
-    (λ c. search needs)
-    (λ c. let call = c .before .before in by-words _ _ (call .before .before .before .before .before .args .refusal) 8 (search needs) (call .put-bytes7 .ensures))
+    (λ c. let call = c .before .before in by-words _ _ (call .before .before .before .before .before .args .refusal) 8 (search needs) (call .put-bytes6 .ensures))
     no-refusal)

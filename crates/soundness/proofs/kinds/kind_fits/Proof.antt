@@ -45,6 +45,9 @@ rs-fit : (c : tie.After-entry-at) →
     termWords * a .r + 2 + at (now (a .rows)) (termWords * a .r + 1) ≤ length (now (a .rows))
 rs-fit c = row-end (start c .pre .0 .known .0) _ (start c .pre .0 .known .2)
 
+alike-requires : tie.Need-alike-requires
+alike-requires c κs = (ls-fit c, rs-fit c)
+
 returns : tie.Need-returns
 returns c b β k =
     let read = c .before .before .before in
@@ -126,7 +129,7 @@ kind-fits-spec =
     tie.close
     (tie.spec
     (λ c κs. search needs)
-    (λ c κs. search needs)
+    alike-requires
     returns
     returns-2
     (λ c. search needs)

@@ -46,9 +46,7 @@ cast-r c = omega (arith, root-lt (start (c .before .before .before .before .befo
 alike-requires : tie.Need-alike-requires
 alike-requires c κs =
     let f = c .before .before .before .before .before .before in
-    let left = left-end (start f .pre .known) _ (f .entry-at .ensures) in
-    let right = right-end (start f .pre .known) _ (f .entry-at .ensures) in
-    (omega arith, omega arith)
+    (left-end (start f .pre .known) _ (f .entry-at .ensures), right-end (start f .pre .known) _ (f .entry-at .ensures))
 
 -- roots that are not alike
 returns-2 : tie.Need-returns-2

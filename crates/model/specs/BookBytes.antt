@@ -42,7 +42,7 @@ parseArguments t (suc c) bytes =
     need (ltb a t) 5
     (andThen (parseArguments t c rest) (λ args rest′. parsed (a ∷ args) rest′)))
 
--- Term t of symbol s: symbol (4), count (4), arguments (5).
+-- Term t of symbol s: symbol (4), count (4), arguments (5). Document 01's rule 6, between the last two, is lifted (document 02, request 3).
 unfoldable pub parseApp : ℕ → ℕ → List ℕ → Parsed Node
 parseApp t s bytes =
     need (leb s maxSymbol) 4

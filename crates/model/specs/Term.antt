@@ -46,7 +46,7 @@ mutual
     nil : Trees
     more : Tree → Trees → Trees
 
--- how many there are
+-- How many trees there are: the count of a root.
 unfoldable pub count : Trees → ℕ
 count nil = 0
 count (more t ts) = suc (count ts)

@@ -113,7 +113,7 @@ fn turn(rows: &[u32], entries: &mut [u32], i: usize, l: usize, e: Entry, args: A
     }
 }
 
-// Visits entry `i`: a hole whose sides stand for terms of one symbol turns common.
+// Visits entry `i`: a hole whose sides stand for terms of one symbol and one count turns common.
 pub fn visit(
     rows: &[u32],
     roots: &[u32],

@@ -23,7 +23,7 @@ Rebuilds = (lim : Limits) (area : List ℕ) → T (sound lim area) → let s = s
 
 -- The lines are the least: any other list of patterns, one for each line, that gives all the left values by one filling
 -- and all the right values by another, becomes the list of our lines by one filling. A pattern and a tree have as many parts below a
--- symbol as they like, at each place anew: no test of counts stands in `Pattern`, `Tree` or `fill`. So the other lines, both fillings and
+-- symbol as they like, at each place anew: no test of counts stands in `Pattern`, `Tree`, `fill` or `refine`. So the other lines, both fillings and
 -- the one filling range over all terms in which a symbol takes several counts (document 02, request 3).
 abbrev pub Least : Type 0
 Least = (lim : Limits) (area : List ℕ) → T (sound lim area) → let s = stateOf area lim in

@@ -115,7 +115,7 @@ module _ (b : Book) (β : Bindings) (es : Table) where
         argument = f .argument;
       }
 
-  facts-kind : (k : Kind) (l r : Node) → KindRight b β es k l r → T (kindOk b β es k l r)
+  pub facts-kind : (k : Kind) (l r : Node) → KindRight b β es k l r → T (kindOk b β es k l r)
   unfolding kindOk
   facts-kind hole l r h = rw h tt
   facts-kind (common s args) l r f =

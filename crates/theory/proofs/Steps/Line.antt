@@ -26,7 +26,7 @@ unfolding isHole
 kind-stays b β es hole l r h = h
 kind-stays b β es (common s args) l r h = refl
 
-right-ended : (b : Book) (β : Bindings) (es : Table) → TableRight b β es → Ended b β es
+pub right-ended : (b : Book) (β : Bindings) (es : Table) → TableRight b β es → Ended b β es
 right-ended b β es t i h = kind-stays b β es (entry es i .kind) _ _ (t .kind-right i h)
 
 -- an entry that is not to turn stays

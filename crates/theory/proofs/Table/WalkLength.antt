@@ -11,7 +11,7 @@ use Rattle.model.specs.Table.{isHole, Entry, Table, entry, turn, visit, walk}
 use Rattle.theory.specs.Walk.{Ended, EndsWithin, WalkLongEnough}
 use Rattle.theory.proofs.Table.Place.{lt-or-le, eq-or-not, placeAll-old, turn-same, turn-other, visit-cases, Walked, on, over, walk-cases, walk-extends, walk-keeps}
 
--- Whether a visit turns the entry: a hole whose sides stand for terms of one symbol.
+-- Whether a visit turns the entry: a hole whose sides stand for terms of one symbol and one count.
 abbrev pub toTurn : Book → Bindings → Entry → Bool
 toTurn b β e = isHole (e .kind) && alike (root b β (e .left)) (root b β (e .right))
 
@@ -60,7 +60,7 @@ module _ (b : Book) (β : Bindings) where
       (walk-cases b β (k + d) i es))
 
   -- more steps do not alter the table of a walk that has ended
-  walk-stays : (k n : ℕ) (es : Table) → Ended b β (walk b β k 0 es) → k ≤ n → walk b β n 0 es ≡ walk b β k 0 es
+  pub walk-stays : (k n : ℕ) (es : Table) → Ended b β (walk b β k 0 es) → k ≤ n → walk b β n 0 es ≡ walk b β k 0 es
   walk-stays k n es h p =
       let e : n ≡ k + (n - k) = omega arith in
       rw (e, walk-split k (n - k) 0 es) (walk-idle (n - k) (0 + k) (walk b β k 0 es) (λ j o q. h j q))

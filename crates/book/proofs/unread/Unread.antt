@@ -10,7 +10,7 @@ use lib.Dec.{ltb, leb}
 use Rattle.leb128.specs.Number.{maxGroups, maxNumber, Read, number, cut, invalid, readGroups, atMost, read}
 use Rattle.leb128.specs.Answer.{placed, readAt}
 use Rattle.model.specs.Limits.{Limits, maxArity, maxSymbol}
-use Rattle.model.specs.Lists.{all, isEmpty}
+use Rattle.model.specs.Lists.{isEmpty}
 use Rattle.model.specs.Term.{Node, Book}
 use Rattle.model.specs.BookBytes.{Parsed, parsed, unparsed, andThen, need, fromRead, parseNumber, parseArguments, parseApp, parseNode, parseTerms, parseBook}
 use Rattle.theory.proofs.Book.Gives.{Gives, need-gives, andThen-gives}

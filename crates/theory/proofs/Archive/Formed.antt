@@ -10,7 +10,7 @@ use native.Mathlib.Nat.{not-suc-le-zero}
 use lib.ListN.{length, getD, length-map}
 use lib.Seq.{ext-getD}
 use Rattle.model.specs.Limits.{Limits}
-use Rattle.model.specs.Term.{Node, var, app, symbol, arguments, alike, Book, Bindings}
+use Rattle.model.specs.Term.{Node, var, app, symbol, arguments, Book, Bindings}
 use Rattle.model.specs.BookBytes.{parsed, parseBook}
 use Rattle.model.specs.Archive.{isVariable, variablesFirst, newNumber, oldNumber, renumbered, moved, storedBook}
 use Rattle.theory.specs.Tests.{ArgumentsLower}

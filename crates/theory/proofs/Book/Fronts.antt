@@ -11,7 +11,7 @@ use lib.Dec.{ltb, leb}
 use Rattle.leb128.specs.Number.{maxGroups, maxNumber, Read, number, cut, invalid, read}
 use Rattle.leb128.proofs.Laws.{fronts-of-numbers}
 use Rattle.model.specs.Limits.{Limits, maxArity, maxSymbol}
-use Rattle.model.specs.Lists.{all, isEmpty}
+use Rattle.model.specs.Lists.{isEmpty}
 use Rattle.model.specs.Term.{Book}
 use Rattle.model.specs.BookBytes.{Parsed, parsed, unparsed, andThen, need, fromRead, parseNumber, parseArguments, parseApp, parseNode, parseTerms, parseWritten, parseBook}
 use Rattle.theory.proofs.Book.Written.{some-written}

@@ -9,7 +9,7 @@ use lib.Dec.{T, eqb, ltb, leb, leb→le}
 use borrow.Author.Tests.{leb-true, le-leb, ne-eqb}
 use Rattle.leb128.specs.Number.{maxGroups, maxNumber, Read, number, cut, invalid, read}
 use Rattle.model.specs.Limits.{Limits, maxArity, maxSymbol}
-use Rattle.model.specs.Lists.{all, isEmpty}
+use Rattle.model.specs.Lists.{isEmpty}
 use Rattle.model.specs.Term.{Book}
 use Rattle.model.specs.Step.{opened}
 use Rattle.model.specs.BookBytes.{Parsed, parsed, unparsed, andThen, need, fromRead, parseNumber, parseArguments, parseApp, parseNode, parseTerms, parseWritten, parseBook, asWritten}

@@ -1,5 +1,5 @@
 -- A book's bytes: what opens is written back as it was, and opening gives a sound state. Assumes nothing.
-use mathlib.Core.Path.{_≡_, refl, ap, sym, _∙_}
+use mathlib.Core.Path.{_≡_, refl, ap, sym}
 use mathlib.Core.List.{List, [], _∷_, _++_, append-assoc, append-nil, map}
 use mathlib.Core.Bool.{Bool}
 use mathlib.Core.Option.{none, some}
@@ -9,17 +9,17 @@ use native.Mathlib.Decide.{decLt}
 use native.Mathlib.Omega.{arith}
 use lib.ListN.{length, getD, length-append, length-map, List·getD-append, List·getD-map}
 use lib.Seq.{append-snoc, getD-at}
-use lib.Dec.{T, eqb, ltb, leb, eqb→eq, eqb-refl, ltb→lt, leb→le}
+use lib.Dec.{T, ltb, leb, ltb→lt, leb→le}
 use Rattle.leb128.specs.Number.{maxGroups, maxNumber, Read, number, cut, invalid, read, write}
 use Rattle.leb128.specs.Laws.{areBytes}
 use Rattle.leb128.proofs.Laws.{only-the-shortest}
 use Rattle.model.specs.Limits.{Limits, maxArity, maxSymbol}
 use Rattle.model.specs.Lists.{all, concatMap, isEmpty}
-use Rattle.model.specs.Term.{Node, var, app, symbol, arguments, alike, Book, Bindings, endsStep, ends}
+use Rattle.model.specs.Term.{Node, var, app, symbol, arguments, Book, Bindings, endsStep, ends}
 use Rattle.model.specs.Step.{opened}
 use Rattle.model.specs.Report.{numberBytes}
 use Rattle.model.specs.BookBytes.{parsed, fromRead, parseNumber, parseArguments, parseApp, parseNode, parseTerms, parseWritten, parseBook, asWritten, nodeNumbers, bookBytes}
-use Rattle.theory.proofs.Lists.Laws.{T-true, all-at, all-intro, concatMap-append}
+use Rattle.theory.proofs.Lists.Laws.{all-intro, concatMap-append}
 use Rattle.theory.proofs.Book.Written.{parsed-as-written, written-bytes}
 use Rattle.theory.proofs.Book.Gives.{Gives, gives-at, need-gives, andThen-gives, andThen-any}
 use Rattle.theory.proofs.Lists.AreBytes.{bytes-behind}

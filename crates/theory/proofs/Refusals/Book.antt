@@ -1,21 +1,18 @@
 -- Decoding a book is decided by the tests of its bytes. Assumes nothing.
 use mathlib.Core.Path.{_≡_, refl}
 use mathlib.Core.List.{List, [], _∷_, _++_}
-use mathlib.Core.Bool.{Bool, true, false, cond}
+use mathlib.Core.Bool.{Bool}
 use mathlib.Core.Logic.{inl, inr}
 use Prim.Native.Nat.{ℕ, zero, suc, _≤_, _<_}
 use native.Mathlib.Omega.{arith}
-use borrow.Author.Tests.{eqb-true, eq-eqb}
-use lib.ListN.{length, getD}
-use lib.Dec.{T, eqb}
+use lib.ListN.{length}
 use Rattle.leb128.specs.Number.{maxGroups, maxNumber, Read, number, cut, invalid, read}
 use Rattle.model.specs.Limits.{Limits, maxArity, maxSymbol}
 use Rattle.model.specs.Lists.{all}
-use Rattle.model.specs.Term.{Node, var, app, Book}
+use Rattle.model.specs.Term.{app, Book}
 use Rattle.model.specs.BookBytes.{Parsed, parsed, unparsed, andThen, need, fromRead, parseNumber, parseArguments, parseApp, parseNode, parseTerms, parseWritten, parseBook}
 use Rattle.theory.specs.Tests.{Test, Decides, refuses, valueOf, restOf, numberTests, argumentTests, nodeTests, termsTests, writtenTests, bookTests}
-use Rattle.theory.proofs.Lists.Laws.{all-at, all-intro, T-true, true-T}
-use Rattle.theory.proofs.Refusals.Deciding.{Tells, holds, fails, tells, tells-lt, tells-le, tells-empty}
+use Rattle.theory.proofs.Refusals.Deciding.{Tells, holds, fails, tells-lt, tells-le, tells-empty}
 
 -- What was decoded passes the tests and leaves the decision to those after it; a refusal is decided by them.
 abbrev pub Follows : {A : Type 0} → Parsed A → ((A → List ℕ → List Test) → List Test) → Type 1

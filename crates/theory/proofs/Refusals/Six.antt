@@ -7,13 +7,12 @@ use Prim.Native.Nat.{ℕ, zero, suc}
 use native.Mathlib.Omega.{arith}
 use borrow.Author.Tests.{ne-eqb}
 use lib.ListN.{length, getD, take, drop}
-use lib.Dec.{T, eqb, ltb, leb, leb→le}
+use lib.Dec.{T, eqb, leb, leb→le}
 use Rattle.model.specs.Limits.{Limits, office, maxSession, sessionCapacity}
 use Rattle.model.specs.Lists.{all}
 use Rattle.model.specs.Term.{Book}
 use Rattle.model.specs.Step.{State, Answer, refused, accepted, require, addLine, bind, opened}
 use Rattle.model.specs.BookBytes.{Parsed, parsed, unparsed, parseNumber, parseBook}
-use Rattle.model.specs.Area.{areaLength}
 use Rattle.model.specs.Call.{refuse, accept, guard, openParsed, callOpen, callCopy}
 use Rattle.model.specs.Archive.{parseRestored, callStore, callRestore}
 use Rattle.model.specs.Session.{Printed, orStop, answered, step, steps, begin, withLength, session}

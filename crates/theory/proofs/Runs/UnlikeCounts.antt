@@ -8,15 +8,15 @@ use Prim.Native.Nat.{ℕ, suc, _<_, zero-le}
 use native.Mathlib.Decide.{decLt}
 use native.Mathlib.Omega.{arith}
 use borrow.Author.Tests.{eq-eqb}
-use lib.ListN.{length, getD, take, length-append, length-map, List·getD-append}
+use lib.ListN.{length, take, length-append, length-map, List·getD-append}
 use lib.Seq.{getD-at}
 use lib.Dec.{T, eqb, ltb, leb, lt→ltb, le→leb}
 use Rattle.model.specs.Limits.{Limits}
 use Rattle.model.specs.Lists.{eqNumbers}
-use Rattle.model.specs.Term.{Node, var, app, symbol, arguments, alike, Book, Bindings, Tree, node, Trees, count, val, root}
+use Rattle.model.specs.Term.{Node, app, symbol, arguments, alike, Book, Bindings, count, root}
 use Rattle.model.specs.Table.{Kind, hole, common, isHole, Table, holeAt, entry, entryOf, place, walk}
 use Rattle.model.specs.Step.{State, Answer, refused, accepted, addLine}
-use Rattle.model.specs.Pattern.{Pattern, variable, apply, fill, fillAll, entryReading}
+use Rattle.model.specs.Pattern.{variable, apply, fill, entryReading}
 use Rattle.model.specs.Area.{areaLength, areaBytes, stateOf, kindOk, entryOk, soundState, sound}
 use Rattle.model.specs.Call.{accept, stepped, callAdd}
 use Rattle.theory.specs.SoundArea.{OneRoot, KindAsWritten}

@@ -1,17 +1,16 @@
 -- The tests of soundness on a book and its bindings say exactly that they are formed and acyclic. Assumes nothing.
-use mathlib.Core.Path.{_≡_, refl, subst}
-use mathlib.Core.List.{List}
-use mathlib.Core.Bool.{Bool, true, false, cond, _&&_}
+use mathlib.Core.Path.{_≡_, refl}
+use mathlib.Core.Bool.{Bool, _&&_}
 use mathlib.Core.Option.{Option, none, some}
-use Prim.Native.Nat.{ℕ, _≤_, _<_, zero-le}
+use Prim.Native.Nat.{ℕ, _<_, zero-le}
 use native.Mathlib.Nat.{zero-add}
 use native.Mathlib.Decide.{decLt}
 use native.Mathlib.Omega.{arith}
 use lib.ListN.{length, getD, List·getD-eq-default}
-use lib.Dec.{T, eqb, ltb, leb, leb→le, le→leb, ltb→lt, lt→ltb, eqb→eq, eqb-refl}
+use lib.Dec.{T, ltb, leb, leb→le, le→leb, ltb→lt, lt→ltb}
 use Rattle.model.specs.Limits.{maxArity, maxSymbol}
 use Rattle.model.specs.Lists.{all, from}
-use Rattle.model.specs.Term.{Node, var, app, symbol, arguments, alike, Book, Bindings, ends, acyclic}
+use Rattle.model.specs.Term.{Node, var, app, symbol, arguments, Book, Bindings, ends, acyclic}
 use Rattle.model.specs.Area.{nodeOk, bindingOk, termsOk}
 use Rattle.theory.proofs.Lists.Laws.{and-both, all-at, all-intro, length-from, getD-from}
 use Rattle.theory.proofs.Lists.Conjunctions.{and₂, and₃}

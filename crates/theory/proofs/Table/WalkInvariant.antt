@@ -11,7 +11,7 @@ use Rattle.model.specs.Lists.{pairwise}
 use Rattle.model.specs.Term.{Node, symbol, arguments, alike, Book, Bindings, val, root}
 use Rattle.model.specs.Table.{Kind, hole, common, isHole, Entry, Table, entry, entryOf, placeAll, turn, visit, walk}
 use Rattle.theory.proofs.Soundness.Facts.{Formed, Acyclic, Has, CommonRight, KindRight}
-use Rattle.theory.proofs.Lists.Laws.{true-T, length-pairwise, getD-pairwise}
+use Rattle.theory.proofs.Lists.Laws.{length-pairwise, getD-pairwise}
 use Rattle.theory.proofs.Values.Equations.{root-argument, alike-counts}
 use Rattle.theory.proofs.Table.Place.{Extends, extends-trans, has-extends, entryOf-has, entryOf-least, lt-or-le, eq-or-not, placeAll-old, placeAll-extends, Fresh, placeAll-new, placeAll-has, grown, turn-length, turn-same, turn-other, turn-grown, visit-cases, walk-keeps}
 

@@ -8,10 +8,10 @@ use native.Mathlib.Nat.{le-of-suc-le-suc, not-suc-le-zero}
 use native.Mathlib.Omega.{arith}
 use lib.ListN.{length, getD}
 use lib.Dec.{T, eqb, eqb→eq, eqb-refl}
-use Rattle.model.specs.Lists.{all, first, from}
+use Rattle.model.specs.Lists.{all, from}
 use Rattle.model.specs.Term.{Node, var, app, symbol, arguments, alike, Book, Bindings, Tree, free, node, Trees, nil, more, count, trees, valueStep, value, endsStep, ends, derefStep, deref, eqTree, eqTrees, val, root, name}
 use Rattle.model.specs.Table.{Entry, holds}
-use Rattle.theory.proofs.Lists.Laws.{and-left, and-right, and-both, T-true, true-T, first-holds, first-least, length-from, getD-from}
+use Rattle.theory.proofs.Lists.Laws.{and-left, and-right, and-both, true-T, first-holds, first-least, length-from, getD-from}
 use Rattle.theory.proofs.Soundness.Facts.{Formed, Acyclic}
 
 -- equality of trees is a test of equality

@@ -56,8 +56,8 @@ abbrev pub CoversUnlike : Type 0
 CoversUnlike = (p : Pattern) (σ τ : ℕ → Tree) (s : ℕ) (ts us : Trees) → fill σ p ≡ node s ts → fill τ p ≡ node s us
     → (count ts ≡ count us → ⊥) → (x : ℕ) × (p ≡ variable x)
 
--- So a line over two terms that stand for terms of one symbol and unlike counts is one open place: its entry is open, the line reads as the
--- place of that entry's class, and nothing else turns or is appended.
+-- So a line over two terms that stand for terms of one symbol and unlike counts is one open place: its entry i, the answer (that the line has
+-- it: Line.antt, `LineOnAreas`), is open, reads as the place of its class, and nothing else turns or is appended.
 abbrev pub OneOpenPlace : Type 0
 OneOpenPlace = (lim : Limits) → Modest lim → (area : List ℕ) (l r s : ℕ) (ls rs : List ℕ) → T (sound lim area) → let st = stateOf area lim in
     root (st .book) (st .bound) l ≡ app s ls → root (st .book) (st .bound) r ≡ app s rs → (length ls ≡ length rs → ⊥)
@@ -72,7 +72,8 @@ KindBefore b β es hole l r = (s : ℕ) (ls rs : List ℕ) → l ≡ app s ls �
 KindBefore b β es (common s args) l r =
     (ls : List ℕ) × (rs : List ℕ) × (l ≡ app s ls) × (r ≡ app s rs) × T (argumentsOk b β es args ls rs)
 
--- An area with the state s that was sound by it: what was asked before, but for one count for each symbol, which does not matter here.
+-- What was asked of an area with the state s before this request, item by item; one count for each symbol is left out, since it is not
+-- needed.
 pub record SoundBefore (lim : Limits) (area : List ℕ) (s : State) : Type 0 where
   pub long-enough : areaLength lim (s .capacity) ≤ length area
   pub words : take (areaLength lim (s .capacity)) area ≡ areaBytes lim s
@@ -97,7 +98,8 @@ abbrev pub OneCount : Book → Type 0
 OneCount b = (t u s : ℕ) (args args′ : List ℕ) → getD b t var ≡ app s args → getD b u var ≡ app s args′ → length args ≡ length args′
 
 -- In such a book terms are alike exactly where they have one symbol, as document 01 has it. The walk and the test of a kind look at two terms
--- by `alike`, and nothing else compares two: so each step on such a book is the one of before.
+-- by `alike`, and all else that compares two goes by their values (`eqTree`), which is as it was. So each step on such a book is the one of
+-- before: an argument in words, since the definitions of before are gone.
 abbrev pub AsBefore : Type 0
 AsBefore = (b : Book) (β : Bindings) → OneCount b → (l r : ℕ)
     → T (alike (root b β l) (root b β r))

@@ -30,7 +30,7 @@ then-same (parsed a rest) = refl
 then-same (unparsed k) = refl
 
 -- the same follows
-pub then-alike : {A B : Type 0} (p : Parsed A) (f g : A → List ℕ → Parsed B) → ((a : A) (rest : List ℕ) → f a rest ≡ g a rest)
+then-alike : {A B : Type 0} (p : Parsed A) (f g : A → List ℕ → Parsed B) → ((a : A) (rest : List ℕ) → f a rest ≡ g a rest)
     → andThen p f ≡ andThen p g
 unfolding andThen
 then-alike (parsed a rest) f g h = h a rest

@@ -1,6 +1,6 @@
 -- What loaded rows hold, one by one: the terms, the bindings and the entries. Assumes nothing.
 use mathlib.Core.Path.{_≡_, refl, sym, _∙_}
-use mathlib.Core.List.{List, [], _∷_, _++_, map, map-map, map-append}
+use mathlib.Core.List.{List, map, map-map}
 use mathlib.Core.Bool.{Bool, true, false, cond}
 use mathlib.Core.Option.{none, some}
 use Prim.Native.Nat.{ℕ, _+_, _*_, _-_, _≤_, _<_, zero-le}
@@ -14,7 +14,6 @@ use Rattle.model.specs.Lists.{from}
 use Rattle.model.specs.Term.{var, app, arguments}
 use Rattle.model.specs.Table.{entry, holeAt}
 use Rattle.model.specs.Area.{termWords, bindingWord}
-use Rattle.theory.proofs.Lists.Laws.{from-append}
 use Rattle.theory.proofs.Lists.From.{length-map-from, getD-map-from}
 use Rattle.theory.proofs.Lists.Rows.{map-from}
 use Rattle.theory.proofs.Soundness.Facts.{Formed}
@@ -75,16 +74,6 @@ binding-words bindings n h =
     map-map bindingWord (bindingOf bindings) (from 0 n) ∙
     (rw long at (map-from (λ t. bindingWord (bindingOf bindings t)) 0 (take n bindings) 0 (λ t l.
     rw (zero-add, getD-take n bindings t 0 (omega arith)) (word-at (at bindings t) (eqb (at bindings t) 0) refl))))
-
--- the terms one after the other: k more, and one
-module _ (rows : List ℕ) (t : ℕ) where
-  pub bookOf-append : (k : ℕ) → bookOf rows (t + k) ≡ bookOf rows t ++ map (nodeOf rows) (from t k)
-  unfolding bookOf
-  bookOf-append k = rw (from-append 0 t k, zero-add, map-append)
-
-  pub bookOf-more : bookOf rows (t + 1) ≡ bookOf rows t ++ nodeOf rows t ∷ []
-  unfolding from
-  bookOf-more = bookOf-append 1
 
 -- a term and a binding by the first word
 module _ (rows : List ℕ) (t : ℕ) where

@@ -14,7 +14,7 @@ use Rattle.leb128.specs.Number.{maxGroups, maxNumber, Read, number, cut, invali
 use Rattle.leb128.specs.Laws.{areBytes}
 use Rattle.leb128.proofs.Laws.{only-the-shortest}
 use Rattle.model.specs.Limits.{Limits, maxArity, maxSymbol}
-use Rattle.model.specs.Lists.{all, concatMap, isEmpty}
+use Rattle.model.specs.Lists.{concatMap, isEmpty}
 use Rattle.model.specs.Term.{Node, var, app, symbol, arguments, Book, Bindings, endsStep, ends}
 use Rattle.model.specs.Step.{opened}
 use Rattle.model.specs.Report.{numberBytes}

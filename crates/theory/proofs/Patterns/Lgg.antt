@@ -28,7 +28,7 @@ module _ (class : Tree → Tree → ℕ) where
     lggAll (more t ts) nil = end
     lggAll (more t ts) (more u us) = then (lgg t u) (lggAll ts us)
 
-  -- values of different root symbols are generalized by an open place, others by their symbol
+  -- values that are not alike are generalized by an open place, others by their symbol
   pub lgg-variable : (x y : Tree) → alikeTrees x y ≡ false → lgg x y ≡ variable (class x y)
   unfolding lgg alikeTrees
   lgg-variable (free x) y h = refl

@@ -8,7 +8,6 @@ use native.Mathlib.Omega.{arith}
 use lib.ListN.{length}
 use Rattle.leb128.specs.Number.{maxGroups, maxNumber, Read, number, cut, invalid, read}
 use Rattle.model.specs.Limits.{Limits, maxArity, maxSymbol}
-use Rattle.model.specs.Lists.{all}
 use Rattle.model.specs.Term.{app, Book}
 use Rattle.model.specs.BookBytes.{Parsed, parsed, unparsed, andThen, need, fromRead, parseNumber, parseArguments, parseApp, parseNode, parseTerms, parseWritten, parseBook}
 use Rattle.theory.specs.Tests.{Test, Decides, refuses, valueOf, restOf, numberTests, argumentTests, nodeTests, termsTests, writtenTests, bookTests}

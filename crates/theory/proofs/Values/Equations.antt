@@ -225,7 +225,7 @@ module _ (b : Book) (β : Bindings) (formed : Formed b β) (acyclic : Acyclic b 
   unfolding root
   root-argument t l j h = omega (arith, formed .lower (deref b β (length b) t) (deref-lt t l) j h, deref-lt t l)
 
-  -- roots are alike exactly when the values' root symbols are equal; then they have one count of arguments
+  -- roots are alike exactly when the values have one root symbol over as many subtrees
   alike-roots : (l r : ℕ) → l < length b → r < length b → (m n : Node) → root b β l ≡ m → root b β r ≡ n
       → alike m n ≡ alikeTrees (val b β l) (val b β r)
   unfolding alike alikeTrees count

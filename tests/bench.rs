@@ -16,6 +16,7 @@ use reference::{book_over, copy_book, encode, perform, restore_book, store_book,
 use reference::{Restore, Store, OFFICE};
 use std::collections::BTreeMap;
 use std::hint::black_box;
+use timing::median;
 
 const RUNS: usize = 5;
 const ROUNDS: usize = 30;
@@ -40,11 +41,6 @@ fn result(work: Work, start: &[u8], length: usize) -> (Answer, Vec<u8>, Vec<u8>)
     let (mut area, mut out) = (start.to_vec(), vec![0; length]);
     let answer = work(&mut area, &mut out);
     (answer, area, out)
-}
-
-fn median(mut figures: Vec<f64>) -> f64 {
-    figures.sort_by(f64::total_cmp);
-    figures[figures.len() / 2]
 }
 
 /// Prints the row of a call: the proved code, Rust on rows and Rust with vectors, which must be accepted and do the same.

@@ -1,5 +1,8 @@
 //! The time of a call.
 
+// Each program uses a part.
+#![allow(dead_code)]
+
 use std::hint::black_box;
 use std::time::{Duration, Instant};
 
@@ -18,4 +21,9 @@ pub fn best(start: &[u8], rounds: usize, calls: usize, mut work: impl FnMut(&mut
         least = least.min(sum);
     }
     least.as_secs_f64() * 1e6 / calls as f64
+}
+
+pub fn median(mut figures: Vec<f64>) -> f64 {
+    figures.sort_by(f64::total_cmp);
+    figures[figures.len() / 2]
 }

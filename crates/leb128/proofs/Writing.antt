@@ -1,10 +1,11 @@
 -- What the writer's bytes are at each of its returns, from what was tested on the way there. Assumes nothing.
-use mathlib.Core.Path.{_≡_, refl, ap}
+use mathlib.Core.Path.{_≡_, refl, ap, _∙_}
 use mathlib.Core.List.{List, [], _∷_, _++_}
 use Prim.Native.Nat.{ℕ, suc, _+_, _/_, _%_, _≤_, _<_}
 use native.Mathlib.Omega.{arith}
 use native.Mathlib.Nat.{zero-add}
 use borrow.Author.Tests.{le-leb, lt-leb}
+use lib.Bits.{bitAnd, bitOr, and-le-r, and-mask, mask-lt, or-lt, or-shifted-r}
 use lib.ListN.{length, drop}
 use lib.Seq.{sets, sets-eq}
 use Rattle.leb128.specs.Number.{write, writeWithin, maxGroups, maxNumber}
@@ -35,6 +36,29 @@ module _ (n : ℕ) where
 -- three groups are three bytes, also above the limit
 pub three-long : (n : ℕ) → 16384 ≤ n → length (write maxGroups n) ≡ 3
 three-long n l = rw (write-more 2 n (omega arith), write-more 1 (n / 128) (omega arith)) (ap (λ (m : ℕ). suc (suc m)) (last-length (n / 128 / 128)))
+
+-- ---- the same, each group masked out
+
+-- what a mask and a bit of a byte make is a byte
+pub masked-fits : (n mask bit : ℕ) → mask < 256 → bit < 256 → bitOr (bitAnd n mask) bit < 256
+masked-fits n mask bit m b = or-lt 8 (bitAnd n mask) bit (omega (arith, and-le-r n mask)) b
+
+-- the lowest seven bits, with 80 (hexadecimal) set
+abbrev group : ℕ → ℕ
+group n = bitOr (bitAnd n 127) 128
+
+-- is the byte that the definition writes
+group-byte : (n : ℕ) → group n ≡ 128 + n % 128
+group-byte n = or-shifted-r 1 7 (bitAnd n 127) (mask-lt n 7) ∙ ap (λ (m : ℕ). 128 + m) (and-mask n 7)
+
+module _ (n : ℕ) where
+  -- two groups
+  pub two-groups : 128 ≤ n → n < 16384 → write maxGroups n ≡ group n ∷ n / 128 ∷ []
+  two-groups l h = rw group-byte (two-bytes n l h)
+
+  -- three
+  pub three-groups : 16384 ≤ n → n ≤ maxNumber → write maxGroups n ≡ group n ∷ group (n / 128) ∷ n / 16384 ∷ []
+  three-groups l h = simp group-byte (three-bytes n l h)
 
 -- ---- what the writer gives
 

@@ -84,7 +84,7 @@ pub fn length_of(n: u32) -> usize
 }
 
 // Writes `n` to the front of `out` and gives the number of bytes written. Where `n` is above the limit or `out` is too
-// short it writes nothing and gives 0.
+// short it writes nothing and gives 0. A group is shifted down and masked out; each but the last has 80 (hexadecimal) set.
 pub fn write(out: &mut [u8], n: u32) -> usize
     ensures count { λ r. ⌜ r ≡ length (writeWithin maxGroups maxNumber (length (now (out .entry))) n) ⌝ }
     ensures bytes { λ r. ⌜ now (out .exit) ≡ writeWithin maxGroups maxNumber (length (now (out .entry))) n ++ drop r (now (out .entry)) ⌝ }
@@ -103,15 +103,15 @@ pub fn write(out: &mut [u8], n: u32) -> usize
         if out.len() < 2 {
             return 0;
         }
-        out[0] = (128 + n % 128) as u8;
-        out[1] = (n / 128) as u8;
+        out[0] = ((n & 127) | 128) as u8;
+        out[1] = (n >> 7) as u8;
         return 2;
     }
     if out.len() < 3 {
         return 0;
     }
-    out[0] = (128 + n % 128) as u8;
-    out[1] = (128 + n / 128 % 128) as u8;
-    out[2] = (n / 16384) as u8;
+    out[0] = ((n & 127) | 128) as u8;
+    out[1] = (((n >> 7) & 127) | 128) as u8;
+    out[2] = (n >> 14) as u8;
     3
 }

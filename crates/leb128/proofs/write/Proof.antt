@@ -4,7 +4,7 @@ use borrow.Author.Needs.{needs}
 use native.Mathlib.Omega.{arith}
 use lib.ListN.{length-set}
 use denote.Ref.{now}
-use Rattle.leb128.proofs.Writing.{one-byte, two-bytes, three-bytes, wrote-above, wrote-short, wrote-all}
+use Rattle.leb128.proofs.Writing.{one-byte, masked-fits, two-groups, three-groups, wrote-above, wrote-short, wrote-all}
 use Rattle.leb128.proofs.write.Statement.{statement}
 use Rattle.leb128.proofs.write.Tie as tie
 
@@ -35,13 +35,10 @@ returns-3 c =
 returns-4 : tie.Need-returns-4
 returns-4 c =
     let a = c .before .before .before .before .args in
-    wrote-short (now (a .out)) (a .n) (omega arith) _ (two-bytes (a .n) (omega arith) (omega arith)) (omega arith)
-
-add-out : tie.Need-add-out
-add-out c = search needs
+    wrote-short (now (a .out)) (a .n) (omega arith) _ (two-groups (a .n) (omega arith) (omega arith)) (omega arith)
 
 cast-out-2 : tie.Need-cast-out-2
-cast-out-2 c = search needs
+cast-out-2 c = search (needs, masked-fits)
 
 slice-write-out-2 : tie.Need-slice-write-out-2
 slice-write-out-2 c = search needs
@@ -58,27 +55,21 @@ same-length-2 c = simp length-set
 returns-5 : tie.Need-returns-5
 returns-5 c =
     let a = c .before .before .before .before .args in
-    wrote-all (now (a .out)) (a .n) (omega arith) _ (two-bytes (a .n) (omega arith) (omega arith)) (omega arith)
+    wrote-all (now (a .out)) (a .n) (omega arith) _ (two-groups (a .n) (omega arith) (omega arith)) (omega arith)
 
 returns-6 : tie.Need-returns-6
 returns-6 c =
     let a = c .before .before .before .before .args in
-    wrote-short (now (a .out)) (a .n) (omega arith) _ (three-bytes (a .n) (omega arith) (omega arith)) (omega arith)
-
-add-out-2 : tie.Need-add-out-2
-add-out-2 c = search needs
+    wrote-short (now (a .out)) (a .n) (omega arith) _ (three-groups (a .n) (omega arith) (omega arith)) (omega arith)
 
 cast-out-4 : tie.Need-cast-out-4
-cast-out-4 c = search needs
+cast-out-4 c = search (needs, masked-fits)
 
 slice-write-out-4 : tie.Need-slice-write-out-4
 slice-write-out-4 c = search needs
 
-add-out-3 : tie.Need-add-out-3
-add-out-3 c = search needs
-
 cast-out-5 : tie.Need-cast-out-5
-cast-out-5 c = search needs
+cast-out-5 c = search (needs, masked-fits)
 
 slice-write-out-5 : tie.Need-slice-write-out-5
 slice-write-out-5 c = simp length-set (omega arith)
@@ -95,7 +86,7 @@ same-length-3 c = simp length-set
 returns-7 : tie.Need-returns-7
 returns-7 c =
     let a = c .before .before .before .before .args in
-    wrote-all (now (a .out)) (a .n) (omega arith) _ (three-bytes (a .n) (omega arith) (omega arith)) (omega arith)
+    wrote-all (now (a .out)) (a .n) (omega arith) _ (three-groups (a .n) (omega arith) (omega arith)) (omega arith)
 
 pub write-spec : {M : Type 1} → statement M
 write-spec =
@@ -108,7 +99,6 @@ write-spec =
     same-length
     returns-3
     returns-4
-    add-out
     cast-out-2
     slice-write-out-2
     cast-out-3
@@ -116,10 +106,8 @@ write-spec =
     same-length-2
     returns-5
     returns-6
-    add-out-2
     cast-out-4
     slice-write-out-4
-    add-out-3
     cast-out-5
     slice-write-out-5
     cast-out-6

@@ -22,8 +22,9 @@ use timing::median;
 const FOLDER: &str = "target/tests/beside";
 const AREAS: usize = 40_000;
 const BOOKS: usize = 60_000;
-const RUNS: usize = 9;
-const ROUNDS: usize = 20;
+/// Short runs in turn, so that a slow moment of the machine falls on both libraries.
+const RUNS: usize = 101;
+const ROUNDS: usize = 2;
 const CALLS: usize = 50;
 /// No report and no book is longer.
 const LONGEST: usize = 47_620;
@@ -128,7 +129,7 @@ fn compare_books(random: &mut Random) {
     tally.print("copying, storing and restoring books");
 }
 
-/// What is measured: each call on the areas and books of so many terms, whose numbers below 128 take one byte and the others two.
+/// What is measured: each call on areas and books of few and of many terms.
 fn measured() -> Vec<(&'static str, String, Input)> {
     let mut rows = Vec::new();
     for (terms, capacity) in [(64, 128), (1024, 1024), (1024, 2048)] {
@@ -173,6 +174,7 @@ fn counted(call: &str, name: &str) -> [f64; 2] {
     counts.try_into().expect("two counts")
 }
 
+/// Of each library the least time of all runs is printed, and the median of the runs' ratios.
 fn times() {
     println!("| call | input | instructions, older | now | ratio | microseconds, older | now | ratio |");
     for (call, name, input) in measured() {
@@ -183,12 +185,10 @@ fn times() {
             })
         };
         let runs: Vec<[f64; 2]> = (0..RUNS).map(|_| [OLDER, NOW].map(&mut best)).collect();
-        let ratios: Vec<f64> = runs.iter().map(|[older, now]| now / older).collect();
-        let (least, greatest) = (ratios.iter().copied().fold(f64::INFINITY, f64::min), ratios.iter().copied().fold(0.0, f64::max));
+        let [older_time, time] = [0, 1].map(|i| runs.iter().map(|run| run[i]).fold(f64::INFINITY, f64::min));
+        let ratio = median(runs.iter().map(|[older, now]| now / older).collect());
         let [older, now] = counted(call, &name);
-        let [older_time, time] = [0, 1].map(|i| median(runs.iter().map(|run| run[i]).collect()));
-        let ratio = median(ratios);
-        println!("| {call} | {name} | {older} | {now} | {:.3} | {older_time:.2} | {time:.2} | {ratio:.2} ({least:.2} to {greatest:.2}) |", now / older);
+        println!("| {call} | {name} | {older} | {now} | {:.3} | {older_time:.2} | {time:.2} | {ratio:.2} |", now / older);
     }
 }
 
@@ -196,7 +196,9 @@ fn main() {
     let words: Vec<String> = std::env::args().skip(1).collect();
     match words.iter().map(String::as_str).collect::<Vec<&str>>()[..] {
         ["compare"] => {
-            let random = &mut Random(reference::first_seed(AREAS as u64));
+            let seed = reference::first_seed(AREAS as u64);
+            println!("first seed {seed}");
+            let random = &mut Random(seed);
             compare_areas(random);
             compare_books(random);
         }

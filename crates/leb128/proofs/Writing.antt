@@ -37,9 +37,9 @@ module _ (n : ℕ) where
 pub three-long : (n : ℕ) → 16384 ≤ n → length (write maxGroups n) ≡ 3
 three-long n l = rw (write-more 2 n (omega arith), write-more 1 (n / 128) (omega arith)) (ap (λ (m : ℕ). suc (suc m)) (last-length (n / 128 / 128)))
 
--- ---- the same, each group masked out
+-- ---- the same, with groups taken by a mask
 
--- what a mask and a bit of a byte make is a byte
+-- a number masked to a byte, with bits of a byte set, is a byte
 pub masked-fits : (n mask bit : ℕ) → mask < 256 → bit < 256 → bitOr (bitAnd n mask) bit < 256
 masked-fits n mask bit m b = or-lt 8 (bitAnd n mask) bit (omega (arith, and-le-r n mask)) b
 
@@ -47,7 +47,7 @@ masked-fits n mask bit m b = or-lt 8 (bitAnd n mask) bit (omega (arith, and-le-r
 abbrev group : ℕ → ℕ
 group n = bitOr (bitAnd n 127) 128
 
--- is the byte that the definition writes
+-- it is the byte that the definition writes
 group-byte : (n : ℕ) → group n ≡ 128 + n % 128
 group-byte n = or-shifted-r 1 7 (bitAnd n 127) (mask-lt n 7) ∙ ap (λ (m : ℕ). 128 + m) (and-mask n 7)
 

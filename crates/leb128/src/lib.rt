@@ -84,7 +84,7 @@ pub fn length_of(n: u32) -> usize
 }
 
 // Writes `n` to the front of `out` and gives the number of bytes written. Where `n` is above the limit or `out` is too
-// short it writes nothing and gives 0. A group is shifted down and masked out; each but the last has 80 (hexadecimal) set.
+// short it writes nothing and gives 0. Groups are taken with a shift and a mask; each byte but the last has 80 (hexadecimal) set.
 pub fn write(out: &mut [u8], n: u32) -> usize
     ensures count { λ r. ⌜ r ≡ length (writeWithin maxGroups maxNumber (length (now (out .entry))) n) ⌝ }
     ensures bytes { λ r. ⌜ now (out .exit) ≡ writeWithin maxGroups maxNumber (length (now (out .entry))) n ++ drop r (now (out .entry)) ⌝ }

@@ -2,7 +2,7 @@
 // stored.
 //
 // load  the header and the words of each part, loaded and tested in parts
-// test  whether an area is sound; then its state is loaded for a call
+// test  whether an area is sound; then its state is loaded for a step
 // save  a state stored into an area, and a book just opened
 
 pub mod load;

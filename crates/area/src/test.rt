@@ -1,4 +1,4 @@
-// An area read: the test of its soundness, and its state loaded for a call (module `load`).
+// An area read: the test of its soundness, and its state loaded for a step (module `load`).
 
 ghost use Rattle.std.specs.Prelude.{◌≡◌, true, ◌*◌, take};
 ghost use Rattle.model.specs.Area as Area;

@@ -7,9 +7,7 @@
 // unread  how far a book's bytes are read
 // write   a term: its length, and writing it
 // encode  term rows into a book's bytes
-// copy    a book read and written back
 
-pub mod copy;
 pub mod decode;
 pub mod encode;
 mod parse;

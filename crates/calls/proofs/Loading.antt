@@ -1,4 +1,4 @@
--- What is loaded from a sound area is what a step or a report asks. Assumes nothing.
+-- What is loaded from a sound area is what a step asks. Assumes nothing.
 use mathlib.Core.Path.{◌≡◌}
 use mathlib.Core.List.{List}
 use Prim.Native.Nat.{ℕ, ◌*◌, ◌≤◌}

@@ -42,6 +42,9 @@ pub const OFFICE: Limits = Limits {
     lines: OFFICE_LINES,
 };
 
+// The words of the rows of the longest book.
+pub const ROWS: usize = TERM_WORDS * OFFICE_TERMS;
+
 // Whether the terms in rows `l` and `r` are applications of one symbol to as many arguments.
 pub fn alike(rows: &[u32], l: usize, r: usize) -> bool
     requires left { term_words * l + 2 + at rows.now (term_words * l + 1) ≤ length rows.now }

@@ -31,14 +31,10 @@ guard false refusal outcome = refusal
 unfoldable pub over : List ℕ → List ℕ → List ℕ
 over new old = new ++ drop (length new) old
 
--- Bytes into the output: 13 where it is too short. The answer is the numbers ns.
-unfoldable pub emit_with : List ℕ → List ℕ → List ℕ → List ℕ → Outcome
-emit_with ns new area out =
-    guard (leb (length new) (length out)) (refuse (length ns) 13 area out) (accept ns area (over new out))
-
--- The same, where the answer is how many were written.
+-- Bytes into the output: 13 where it is too short. The answer is how many were written.
 unfoldable pub emit : List ℕ → List ℕ → List ℕ → Outcome
-emit new area out = emit_with (length new ∷ []) new area out
+emit new area out =
+    guard (leb (length new) (length out)) (refuse 1 13 area out) (accept (length new ∷ []) area (over new out))
 
 unfoldable pub copy_parsed : List ℕ → Parsed Book → Outcome
 copy_parsed out (parsed b rest) = emit (book_bytes b) [] out

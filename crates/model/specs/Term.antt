@@ -121,10 +121,6 @@ module _ (b : Book) (β : Bindings) where
   unfoldable pub root : ℕ → Node
   root t = get_or b (deref b β (length b) t) var
 
-  -- The name of a value: the lowest term number that has it.
-  unfoldable pub name_of : Tree → ℕ
-  name_of v = first (λ u. eq_tree (val u) v) (from 0 (length b))
-
-  -- The name of t's value.
+  -- The name of t's value: the lowest term number that has this value.
   unfoldable pub name : ℕ → ℕ
-  name t = name_of (val t)
+  name t = first (λ u. eq_tree (val u) (val t)) (from 0 (length b))

@@ -1,10 +1,8 @@
-// An entry of an area, with the office's limits.
+// An entry of an area, on bytes of any kind. Nothing here changes the area.
 
 ghost use Rattle.std.specs.Prelude.{◌≡◌};
 ghost use Rattle.model.specs.Limits.{office};
 ghost use Rattle.model.specs.Call.{call_entry};
-
-use crate::sizes::{CELLS, LIMITS, LINES, PAIRS, ROWS, TABLE, TERMS};
 
 // Reads an entry: 7 for an area that is not sound, 8 where there is no such entry. `fields` are left, right, kind, symbol, count,
 // the eight argument places and same-as, zeros on a refusal.
@@ -12,30 +10,19 @@ pub fn entry(area: &[u8], i: u32, fields: &mut [u32; layout::limits::ENTRY_WORDS
     ensures refusal { result ≡ (call_entry office area.now i).refusal }
     ensures fields { fields.new ≡ (call_entry office area.now i).numbers }
 {
-    let mut rows = [0u32; ROWS];
-    let mut bindings = [0u32; TERMS];
-    let mut list = [0u32; TERMS];
-    let mut roots = [0u32; TERMS];
-    let mut names = [0u32; TERMS];
-    let mut lines = [0u32; LINES];
-    let mut entries = [0u32; TABLE];
-    let mut lefts = [0u32; PAIRS];
-    let mut rights = [0u32; PAIRS];
-    let mut cells = [0u32; CELLS];
-    calls::entry::entry(
-        LIMITS,
-        area,
-        &mut rows,
-        &mut bindings,
-        &mut list,
-        &mut roots,
-        &mut names,
-        &mut lines,
-        &mut entries,
-        i,
-        &mut lefts,
-        &mut rights,
-        &mut cells,
-        fields,
-    )
+    *fields = [0u32; layout::limits::ENTRY_WORDS];
+    let mut rows = [0u32; layout::limits::ROWS];
+    let mut lines = [0u32; layout::limits::OFFICE_LINES];
+    let mut entries = [0u32; crate::read::TABLE_WORDS];
+    let mut names = [0u32; layout::limits::OFFICE_TERMS];
+    if !crate::read::read(area, &mut rows, &mut names, &mut lines, &mut entries) {
+        return 7;
+    }
+    let h = layout::header::load_header(area);
+    if h.entries <= i {
+        return 8;
+    }
+    let entry = layout::entry::entry_at(&entries, i as usize);
+    *fields = layout::entry::row_of(entry);
+    0
 }

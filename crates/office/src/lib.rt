@@ -1,7 +1,7 @@
-// The calls with the office's limits, on bytes of any kind: each lends arrays of the office's sizes to its core, and does nothing else. Only
+// The calls with the office's limits, on bytes of any kind: each has the arrays of the office's sizes that it works in. Only
 // `opening` and `steps` change an area.
 //
-// sizes    the limits and the sizes of the arrays
+// read     an area read into arrays, for the calls that show what it holds
 // steps    a step on an area
 // opening  a book opened in an area, and where it is refused
 // copy     a book read and written back
@@ -15,8 +15,8 @@ pub mod books;
 pub mod copy;
 pub mod entry;
 pub mod opening;
+mod read;
 pub mod reports;
 pub mod restore;
-mod sizes;
 pub mod steps;
 pub mod store;

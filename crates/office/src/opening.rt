@@ -6,13 +6,17 @@ ghost use Rattle.model.specs.Call.{call_open};
 ghost use Rattle.book.specs.unread.Unread.{read_to};
 ghost use Rattle.office.specs.opening.Offered.{needed_length};
 
-use crate::sizes::{LIMITS, ROWS};
-
 // The length in bytes that an area of this capacity needs, 0 for a capacity out of range.
 pub fn area_length(capacity: u32) -> usize
     ensures { result ≡ needed_length capacity }
 {
-    calls::opening::area_length(LIMITS, capacity)
+    if capacity < 1 {
+        return 0;
+    }
+    if layout::limits::OFFICE_CAPACITY < capacity as usize {
+        return 0;
+    }
+    layout::offsets::needed_length(layout::limits::OFFICE, capacity as usize)
 }
 
 // Opens a book in an area: 4 for the capacity, 7 for an area that is too short, then the book's refusals. Where it is
@@ -21,14 +25,28 @@ pub fn open(capacity: u32, book: &[u8], area: &mut [u8]) -> u32
     ensures refusal { result ≡ (call_open office capacity book.now area.old).refusal }
     ensures area { area.new ≡ (call_open office capacity book.now area.old).area }
 {
-    let mut rows = [0u32; ROWS];
-    calls::opening::open(LIMITS, capacity, book, area, &mut rows)
+    let needed = area_length(capacity);
+    if needed == 0 {
+        return 4;
+    }
+    if area.len() < needed {
+        return 7;
+    }
+    let mut rows = [0u32; layout::limits::ROWS];
+    let decoded = book::decode::decode(layout::limits::OFFICE, book, &mut rows);
+    let refusal = decoded.refusal;
+    if refusal != 0 {
+        return refusal;
+    }
+    let terms = decoded.terms;
+    area::save::opened(layout::limits::OFFICE, area, capacity, needed, &rows, terms);
+    0
 }
 
 // How far a book is read: the position of the part that is refused, and the end where none is.
 pub fn read_to(book: &[u8]) -> usize
     ensures { result ≡ read_to office book.now }
 {
-    let mut rows = [0u32; ROWS];
-    book::unread::read_to(LIMITS, book, &mut rows)
+    let mut rows = [0u32; layout::limits::ROWS];
+    book::unread::read_to(layout::limits::OFFICE, book, &mut rows)
 }

@@ -4,19 +4,17 @@ ghost use Rattle.model.specs.Limits.{office};
 ghost use Rattle.model.specs.Archive.{call_restore};
 ghost use Rattle.runs.specs.Emits.{Writes};
 
-use crate::sizes::{LIMITS, ROWS, TERMS};
-
 // Restores a book: that of which `book` is the renumbering by `list`. The book's refusals, the list's (1, 2, 3, 8, 14), then 5, then 13
 // where `out` is too short. `written` is the number of bytes written, 0 on a refusal.
 pub fn restore_book(book: &[u8], list: &[u8], out: &mut [u8], written: &mut u32) -> u32
     ensures { Writes (call_restore office book.now list.now out.old) result written.new out.new }
 {
-    let mut rows = [0u32; ROWS];
-    let mut listed = [0u32; TERMS];
-    let mut places = [0u32; TERMS];
-    let mut moved = [0u32; ROWS];
+    let mut rows = [0u32; layout::limits::ROWS];
+    let mut listed = [0u32; layout::limits::OFFICE_TERMS];
+    let mut places = [0u32; layout::limits::OFFICE_TERMS];
+    let mut moved = [0u32; layout::limits::ROWS];
     archive::restoring::restore(
-        LIMITS,
+        layout::limits::OFFICE,
         book,
         list,
         &mut rows,

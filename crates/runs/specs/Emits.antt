@@ -3,13 +3,9 @@ use Rattle.std.specs.Prelude.{◌≡◌, List, [], ◌∷◌, ℕ}
 use Rattle.model.specs.Call.{Outcome}
 use Rattle.model.specs.Archive.{Stored}
 
--- An outcome has this refusal, these numbers and this output.
-abbrev pub WritesWith : Outcome → ℕ → List ℕ → List ℕ → Type 0
-WritesWith o refusal ns out = (refusal ≡ o.refusal) × ((ns ≡ o.numbers) × (out ≡ o.output))
-
--- Its one number is that of the bytes written.
+-- An outcome has this refusal, this number of bytes and this output.
 abbrev pub Writes : Outcome → ℕ → ℕ → List ℕ → Type 0
-Writes o refusal written out = WritesWith o refusal (written ∷ []) out
+Writes o refusal written out = (refusal ≡ o.refusal) × ((written ∷ [] ≡ o.numbers) × (out ≡ o.output))
 
 -- And one that has two outputs, the second a list's.
 abbrev pub WritesBoth : Stored → ℕ → ℕ → ℕ → List ℕ → List ℕ → Type 0

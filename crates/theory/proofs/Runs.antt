@@ -5,5 +5,4 @@ pub mod Lines
 pub mod Again
 pub mod Alone
 pub mod LineOnAreas
-pub mod SameAnswer
 pub mod UnlikeCounts

@@ -57,23 +57,17 @@ pub record Stores (lim : Limits) (book : List ℕ) (o : Stored) : Type 0 where
   pub list_written : take (length (number_bytes list)) o.list ≡ number_bytes list
   pub stored_opens : OpensAs lim new
 
-abbrev pub StoresAsAskedAt : Limits → Type 0
-StoresAsAskedAt lim = (book out list : List ℕ) → (call_store lim book out list).refusal ≡ 0
-    → Stores lim book (call_store lim book out list)
-
 abbrev pub StoresAsAsked : Type 0
-StoresAsAsked = (lim : Limits) → StoresAsAskedAt lim
+StoresAsAsked = (lim : Limits) (book out list : List ℕ) → (call_store lim book out list).refusal ≡ 0
+    → Stores lim book (call_store lim book out list)
 
 -- Book and list, as they were written, restore the first book's bytes, for every book that storing accepts (`stored_and_back` of
 -- Lengths.antt: every book that opens, in outputs that are long enough), and into every output: 13 where they do not fit. For no bytes they
 -- restore 00 (`as_written`).
-abbrev pub StoredRestoresAt : Limits → Type 0
-StoredRestoresAt lim = (book out list : List ℕ) → T (are_bytes book) → let o = call_store lim book out list in
+abbrev pub StoredRestores : Type 0
+StoredRestores = (lim : Limits) (book out list : List ℕ) → T (are_bytes book) → let o = call_store lim book out list in
     o.refusal ≡ 0 → (m n : ℕ) → o.numbers ≡ m ∷ n ∷ []
     → (back : List ℕ) → call_restore lim (take m o.output) (take n o.list) back ≡ emit (as_written book) [] back
-
-abbrev pub StoredRestores : Type 0
-StoredRestores = (lim : Limits) → StoredRestoresAt lim
 
 -- Bytes are taken as a list of n terms exactly where they are the numbers of a list that names every term once.
 pub record ReadsLists : Type 0 where
@@ -95,12 +89,9 @@ pub record RestoredFrom (lim : Limits) (book listBytes : List ℕ) (o : Outcome)
   pub numbers : o.numbers ≡ length (book_bytes old) ∷ []
   pub written : take (length (book_bytes old)) o.output ≡ book_bytes old
 
-abbrev pub RestoresAsAskedAt : Limits → Type 0
-RestoresAsAskedAt lim = (book listBytes out : List ℕ) → T (are_bytes listBytes) → (call_restore lim book listBytes out).refusal ≡ 0
-    → RestoredFrom lim book listBytes (call_restore lim book listBytes out)
-
 abbrev pub RestoresAsAsked : Type 0
-RestoresAsAsked = (lim : Limits) → RestoresAsAskedAt lim
+RestoresAsAsked = (lim : Limits) (book listBytes out : List ℕ) → T (are_bytes listBytes) → (call_restore lim book listBytes out).refusal ≡ 0
+    → RestoredFrom lim book listBytes (call_restore lim book listBytes out)
 
 -- Restoring from the book `new`, which opens from some bytes, and a list that names every term once: it works where a book opens of
 -- which `new` is the renumbering, that book's bytes are written (13 where they do not fit), and otherwise it is refused by 5.
@@ -113,20 +104,15 @@ pub record Restores (lim : Limits) (bytes out : List ℕ) (new : Book) (list : L
   pub one-book : (old old' : Book) → OpensAs lim old → OpensAs lim old' → Renumbers list old new → Renumbers list old' new
       → old' ≡ old
 
-abbrev pub RestoresWhereItOpensAt : Limits → Type 0
-RestoresWhereItOpensAt lim = (bytes out : List ℕ) (new : Book) (rest : List ℕ) (list : List ℕ)
+abbrev pub RestoresWhereItOpens : Type 0
+RestoresWhereItOpens = (lim : Limits) (bytes out : List ℕ) (new : Book) (rest : List ℕ) (list : List ℕ)
     → parse_book lim bytes ≡ parsed new rest → EachOnce (length new) list → Restores lim bytes out new list
 
-abbrev pub RestoresWhereItOpens : Type 0
-RestoresWhereItOpens = (lim : Limits) → RestoresWhereItOpensAt lim
-
 -- No area, so no 7.
-abbrev pub WithoutSevenAt : Limits → Type 0
-WithoutSevenAt lim = ((book out list : List ℕ) → (call_store lim book out list).refusal ≡ 7 → ⊥)
-    × ((book list out : List ℕ) → (call_restore lim book list out).refusal ≡ 7 → ⊥)
-
 abbrev pub WithoutSeven : Type 0
-WithoutSeven = (lim : Limits) → WithoutSevenAt lim
+WithoutSeven =
+    ((lim : Limits) (book out list : List ℕ) → (call_store lim book out list).refusal ≡ 7 → ⊥)
+    × ((lim : Limits) (book list out : List ℕ) → (call_restore lim book list out).refusal ≡ 7 → ⊥)
 
 pub record Archive : Type 0 where
   pub stored_as_asked : StoredAsAsked

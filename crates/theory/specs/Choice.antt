@@ -26,8 +26,5 @@ pub record Chosen (s s' : State) (v : ℕ) (ns : List ℕ) : Type 0 where
   pub counts : ns ≡ turned s.entries s'.entries ∷ (length s'.entries - length s.entries) ∷ []
   pub old-entries : (i : ℕ) → i < length s.entries → Kept s.book s.bound v (entry s.entries i) (entry s'.entries i)
 
-abbrev pub ChoiceAt : Limits → Type 0
-ChoiceAt lim = (s s' : State) (v t : ℕ) (ns : List ℕ) → T (sound_state lim s) → bind s v t ≡ accepted ns s' → Chosen s s' v ns
-
 abbrev pub Choice : Type 0
-Choice = (lim : Limits) → ChoiceAt lim
+Choice = (lim : Limits) (s s' : State) (v t : ℕ) (ns : List ℕ) → T (sound_state lim s) → bind s v t ≡ accepted ns s' → Chosen s s' v ns

@@ -44,28 +44,20 @@ pub record As00 (lim : Limits) : Type 0 where
   pub restoring : (list out : List ℕ) → call_restore lim [] list out ≡ call_restore lim (0 ∷ []) list out
 
 -- Once opened, no bytes are written back from the area as 00, at any time.
-abbrev pub WrittenAs00At : Limits → Type 0
-WrittenAs00At lim = (capacity : ℕ) (area : List ℕ) → Openable lim capacity area → (calls : List Request) (out : List ℕ)
+abbrev pub WrittenAs00 : Type 0
+WrittenAs00 = (lim : Limits) → Modest lim → (capacity : ℕ) (area : List ℕ) → Openable lim capacity area → (calls : List Request) (out : List ℕ)
     → let after = run lim (call_open lim capacity [] area).area calls in
     call_write lim after out ≡ emit (0 ∷ []) after out
 
-abbrev pub WrittenAs00 : Type 0
-WrittenAs00 = (lim : Limits) → Modest lim → WrittenAs00At lim
-
 -- Nothing else is new: every other book has the answer of the reader of books as they are written, which refuses no bytes with 1.
-abbrev pub NothingElseIsNewAt : Limits → Type 0
-NothingElseIsNewAt lim = (parse_written lim [] ≡ unparsed 1) × ((bytes : List ℕ) → (bytes ≡ [] → ⊥) → parse_book lim bytes ≡ parse_written lim bytes)
-
 abbrev pub NothingElseIsNew : Type 0
-NothingElseIsNew = (lim : Limits) → NothingElseIsNewAt lim
+NothingElseIsNew = (lim : Limits)
+    → (parse_written lim [] ≡ unparsed 1) × ((bytes : List ℕ) → (bytes ≡ [] → ⊥) → parse_book lim bytes ≡ parse_written lim bytes)
 
 -- What is written for a book that opens (`book_bytes`) is what was read, but for no bytes, for which it is 00.
-abbrev pub OneBookDiffersAt : Limits → Type 0
-OneBookDiffersAt lim = (bytes : List ℕ) (b : Book) (rest : List ℕ) → T (are_bytes bytes) → parse_book lim bytes ≡ parsed b rest
-    → ((bytes ≡ [] → ⊥) → book_bytes b ≡ bytes) × (bytes ≡ [] → book_bytes b ≡ 0 ∷ [])
-
 abbrev pub OneBookDiffers : Type 0
-OneBookDiffers = (lim : Limits) → OneBookDiffersAt lim
+OneBookDiffers = (lim : Limits) (bytes : List ℕ) (b : Book) (rest : List ℕ) → T (are_bytes bytes) → parse_book lim bytes ≡ parsed b rest
+    → ((bytes ≡ [] → ⊥) → book_bytes b ≡ bytes) × (bytes ≡ [] → book_bytes b ≡ 0 ∷ [])
 
 -- `as_written`, which demand 2 and the theorems on storing and restoring have for what is written back, is these bytes for every other book.
 abbrev pub SameBytesElse : Type 0
@@ -80,12 +72,9 @@ pub record RefusedAsCut (lim : Limits) (book : List ℕ) : Type 0 where
   pub restoring : (list out : List ℕ) → call_restore lim book list out ≡ refuse 1 1 [] out
 
 -- It remains for a book that breaks off after its first byte: every front of a book that opens, but for no bytes and the whole.
-abbrev pub BreaksOffAt : Limits → Type 0
-BreaksOffAt lim = (book : List ℕ) (b : Book) (rest : List ℕ) → parse_book lim book ≡ parsed b rest
-    → (n : ℕ) → 0 < n → n < length book → RefusedAsCut lim (take n book)
-
 abbrev pub BreaksOff : Type 0
-BreaksOff = (lim : Limits) → BreaksOffAt lim
+BreaksOff = (lim : Limits) (book : List ℕ) (b : Book) (rest : List ℕ) → parse_book lim book ≡ parsed b rest
+    → (n : ℕ) → 0 < n → n < length book → RefusedAsCut lim (take n book)
 
 -- A session whose book has length 0 opens, unless it is too long, and its steps follow, on the book without terms. One of no bytes lacks
 -- its book's length and prints 1; one that is not too long and whose book breaks off prints 1 too.

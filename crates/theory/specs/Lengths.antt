@@ -44,25 +44,21 @@ longest_report = 47620
 abbrev pub longest_session_report : ℕ
 longest_session_report = 24068
 
-pub record LengthsAt (lim : Limits) : Type 0 where
-  -- bytes that open as a book, the book of a sound state written, and its report
-  pub book-read : (bytes : List ℕ) (b : Book) (rest : List ℕ) → T (are_bytes bytes)
+pub record Lengths : Type 0 where
+  -- of any limits up to the office's: bytes that open as a book, the book of a sound state written, and its report
+  pub book-read : (lim : Limits) → Modest lim → (bytes : List ℕ) (b : Book) (rest : List ℕ) → T (are_bytes bytes)
       → parse_book lim bytes ≡ parsed b rest → length bytes ≤ book_most (length b)
-  pub book-written : (s : State) → T (sound_state lim s)
+  pub book-written : (lim : Limits) → Modest lim → (s : State) → T (sound_state lim s)
       → length (book_bytes s.book) ≤ book_most (length s.book)
-  pub report-written : (s : State) → T (sound_state lim s)
+  pub report-written : (lim : Limits) → Modest lim → (s : State) → T (sound_state lim s)
       → length (report_bytes s) ≤ report_most (length s.lines) (length s.entries)
   -- what is stored for a book that opens, book and list, and what is restored
-  pub book_stored : (bytes : List ℕ) (b : Book) (rest : List ℕ) → parse_book lim bytes ≡ parsed b rest
+  pub book_stored : (lim : Limits) → Modest lim → (bytes : List ℕ) (b : Book) (rest : List ℕ) → parse_book lim bytes ≡ parsed b rest
       → length (book_bytes (stored_book b)) ≤ book_most (length b)
-  pub list_stored : (bytes : List ℕ) (b : Book) (rest : List ℕ) → parse_book lim bytes ≡ parsed b rest
+  pub list_stored : (lim : Limits) → Modest lim → (bytes : List ℕ) (b : Book) (rest : List ℕ) → parse_book lim bytes ≡ parsed b rest
       → length (number_bytes (variables_first b)) ≤ list_most (length b)
-  pub book_restored : (bytes list : List ℕ) (b : Book) (rest : List ℕ)
+  pub book_restored : (lim : Limits) → Modest lim → (bytes list : List ℕ) (b : Book) (rest : List ℕ)
       → parse_restored lim bytes list ≡ parsed b rest → length (book_bytes b) ≤ book_most (length b)
-
-pub record Lengths : Type 0 where
-  -- of any limits up to the office's
-  pub at-limits : (lim : Limits) → Modest lim → LengthsAt lim
   -- the office's
   pub office-book-read : (bytes : List ℕ) (b : Book) (rest : List ℕ) → T (are_bytes bytes) → parse_book office bytes ≡ parsed b rest
       → length bytes ≤ longest_book

@@ -16,16 +16,10 @@ pub record Lined (s s' : State) (ns : List ℕ) : Type 0 where
   pub bound : s'.bound ≡ s.bound
   pub capacity : s'.capacity ≡ s.capacity
 
-abbrev pub LineAt : Limits → Type 0
-LineAt lim = (s s' : State) (l r : ℕ) (ns : List ℕ) → T (sound_state lim s) → add_line lim s l r ≡ accepted ns s' → Lined s s' ns
-
 abbrev pub Line : Type 0
-Line = (lim : Limits) → LineAt lim
+Line = (lim : Limits) (s s' : State) (l r : ℕ) (ns : List ℕ) → T (sound_state lim s) → add_line lim s l r ≡ accepted ns s' → Lined s s' ns
 
 -- The same of the call on any sound area.
-abbrev pub LineOnAreasAt : Limits → Type 0
-LineOnAreasAt lim = (area : List ℕ) (l r : ℕ) → T (sound lim area) → (call_add lim area l r).refusal ≡ 0
-    → Lined (state_of area lim) (state_of (call_add lim area l r).area lim) (call_add lim area l r).numbers
-
 abbrev pub LineOnAreas : Type 0
-LineOnAreas = (lim : Limits) → Modest lim → LineOnAreasAt lim
+LineOnAreas = (lim : Limits) → Modest lim → (area : List ℕ) (l r : ℕ) → T (sound lim area) → (call_add lim area l r).refusal ≡ 0
+    → Lined (state_of area lim) (state_of (call_add lim area l r).area lim) (call_add lim area l r).numbers

@@ -26,8 +26,5 @@ pub record ReadsAs (s : State) : Type 0 where
   pub of_hole : (i : ℕ) → i < length s.entries → (entry s.entries i).kind ≡ hole
       → entry_reading s i ≡ variable (entry s.entries i).same_as
 
-abbrev pub ReadingsAsWrittenAt : Limits → Type 0
-ReadingsAsWrittenAt lim = (area : List ℕ) → T (sound lim area) → ReadsAs (state_of area lim)
-
 abbrev pub ReadingsAsWritten : Type 0
-ReadingsAsWritten = (lim : Limits) → ReadingsAsWrittenAt lim
+ReadingsAsWritten = (lim : Limits) (area : List ℕ) → T (sound lim area) → ReadsAs (state_of area lim)

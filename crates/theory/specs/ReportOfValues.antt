@@ -9,21 +9,15 @@ use Rattle.theory.specs.Modest.{Modest}
 
 -- On sound states the report is a function of the book, the bindings and the value pairs of the lines alone: two states that
 -- agree on these, also of other limits, other capacities and other entries, have one report.
-abbrev pub ReportOfValuesAt : Limits → Limits → Type 0
-ReportOfValuesAt lim₁ lim₂ = (s₁ s₂ : State) → T (sound_state lim₁ s₁) → T (sound_state lim₂ s₂) → s₁.book ≡ s₂.book
+abbrev pub ReportOfValues : Type 0
+ReportOfValues = (lim₁ lim₂ : Limits) (s₁ s₂ : State) → T (sound_state lim₁ s₁) → T (sound_state lim₂ s₂) → s₁.book ≡ s₂.book
     → s₁.bound ≡ s₂.bound → map (left_value s₁) s₁.lines ≡ map (left_value s₂) s₂.lines
     → map (right_value s₁) s₁.lines ≡ map (right_value s₂) s₂.lines → report s₁ ≡ report s₂
 
-abbrev pub ReportOfValues : Type 0
-ReportOfValues = (lim₁ lim₂ : Limits) → ReportOfValuesAt lim₁ lim₂
-
 -- And its bytes tell them: where two such states have one book, the same bindings and the same bytes of the report, their lines
 -- have the same value pairs, in their order.
-abbrev pub ReportTellsAt : Limits → Limits → Type 0
-ReportTellsAt lim₁ lim₂ = (s₁ s₂ : State) → T (sound_state lim₁ s₁) → T (sound_state lim₂ s₂)
+abbrev pub ReportTells : Type 0
+ReportTells = (lim₁ lim₂ : Limits) → Modest lim₁ → Modest lim₂ → (s₁ s₂ : State) → T (sound_state lim₁ s₁) → T (sound_state lim₂ s₂)
     → s₁.book ≡ s₂.book → s₁.bound ≡ s₂.bound → report_bytes s₁ ≡ report_bytes s₂
     → (map (left_value s₁) s₁.lines ≡ map (left_value s₂) s₂.lines)
     × (map (right_value s₁) s₁.lines ≡ map (right_value s₂) s₂.lines)
-
-abbrev pub ReportTells : Type 0
-ReportTells = (lim₁ lim₂ : Limits) → Modest lim₁ → Modest lim₂ → ReportTellsAt lim₁ lim₂

@@ -16,22 +16,18 @@ use Rattle.theory.specs.Modest.{Modest}
 use Rattle.theory.specs.SoundArea.{TermAsWritten, OneRoot}
 use Rattle.theory.specs.Archive.{OpensAs}
 
--- Reading a book never gives 6; so no call does.
-pub record NoSixAt (lim : Limits) : Type 0 where
-  pub parses : (bytes : List ℕ) → parse_book lim bytes ≡ unparsed 6 → ⊥
-  pub opening : (capacity : ℕ) (book area : List ℕ) → (call_open lim capacity book area).refusal ≡ 6 → ⊥
-  pub adding : (area : List ℕ) (l r : ℕ) → (call_add lim area l r).refusal ≡ 6 → ⊥
-  pub fixing : (area : List ℕ) (v t : ℕ) → (call_bind lim area v t).refusal ≡ 6 → ⊥
-  pub reading : (area : List ℕ) (i : ℕ) → (call_entry lim area i).refusal ≡ 6 → ⊥
-  pub reporting : (area out : List ℕ) → (call_report lim area out).refusal ≡ 6 → ⊥
-  pub writing : (area out : List ℕ) → (call_write lim area out).refusal ≡ 6 → ⊥
-  pub copying : (book out : List ℕ) → (call_copy lim book out).refusal ≡ 6 → ⊥
-  pub storing : (book out list : List ℕ) → (call_store lim book out list).refusal ≡ 6 → ⊥
-  pub restoring : (book list out : List ℕ) → (call_restore lim book list out).refusal ≡ 6 → ⊥
-
--- With any limits; and no line of a session is this refusal.
+-- Reading a book never gives 6, with any limits; so no call does, and no line of a session is this refusal.
 pub record NoSix : Type 0 where
-  pub calls : (lim : Limits) → NoSixAt lim
+  pub parses : (lim : Limits) (bytes : List ℕ) → parse_book lim bytes ≡ unparsed 6 → ⊥
+  pub opening : (lim : Limits) (capacity : ℕ) (book area : List ℕ) → (call_open lim capacity book area).refusal ≡ 6 → ⊥
+  pub adding : (lim : Limits) (area : List ℕ) (l r : ℕ) → (call_add lim area l r).refusal ≡ 6 → ⊥
+  pub fixing : (lim : Limits) (area : List ℕ) (v t : ℕ) → (call_bind lim area v t).refusal ≡ 6 → ⊥
+  pub reading : (lim : Limits) (area : List ℕ) (i : ℕ) → (call_entry lim area i).refusal ≡ 6 → ⊥
+  pub reporting : (lim : Limits) (area out : List ℕ) → (call_report lim area out).refusal ≡ 6 → ⊥
+  pub writing : (lim : Limits) (area out : List ℕ) → (call_write lim area out).refusal ≡ 6 → ⊥
+  pub copying : (lim : Limits) (book out : List ℕ) → (call_copy lim book out).refusal ≡ 6 → ⊥
+  pub storing : (lim : Limits) (book out list : List ℕ) → (call_store lim book out list).refusal ≡ 6 → ⊥
+  pub restoring : (lim : Limits) (book list out : List ℕ) → (call_restore lim book list out).refusal ≡ 6 → ⊥
   pub in_sessions : (bytes : List ℕ) (i : ℕ) → get_or (session bytes) i [] ≡ 6 ∷ [] → ⊥
 
 -- Terms are alike exactly where they are applications of one symbol, with as many arguments.
@@ -39,22 +35,16 @@ abbrev pub AlikeExactly : Type 0
 AlikeExactly = (l r : Node) → T (alike l r) ↔ ((s : ℕ) × (c : ℕ) × OneRoot s c l r)
 
 -- An entry of a sound area is common, with symbol s and c arguments, exactly where its sides stand for terms of this symbol and this count.
-abbrev pub CommonExactlyAt : Limits → Type 0
-CommonExactlyAt lim = (area : List ℕ) → T (sound lim area) → let st = state_of area lim in
+abbrev pub CommonExactly : Type 0
+CommonExactly = (lim : Limits) (area : List ℕ) → T (sound lim area) → let st = state_of area lim in
     (i s c : ℕ) → i < length st.entries
     → ((args : List ℕ) × ((entry st.entries i).kind ≡ common s args) × (length args ≡ c))
     ↔ OneRoot s c (root st.book st.bound (entry st.entries i).left) (root st.book st.bound (entry st.entries i).right)
 
-abbrev pub CommonExactly : Type 0
-CommonExactly = (lim : Limits) → CommonExactlyAt lim
-
 -- Nothing is asked of two terms together: every book opens whose terms obey, each by itself, the rules that remain.
-abbrev pub OpensByTermsAt : Limits → Type 0
-OpensByTermsAt lim = (b : Book) → length b ≤ lim.max_terms
-    → ((t s : ℕ) (args : List ℕ) → t < length b → get_or b t var ≡ app s args → TermAsWritten t s args) → OpensAs lim b
-
 abbrev pub OpensByTerms : Type 0
-OpensByTerms = (lim : Limits) → Modest lim → OpensByTermsAt lim
+OpensByTerms = (lim : Limits) → Modest lim → (b : Book) → length b ≤ lim.max_terms
+    → ((t s : ℕ) (args : List ℕ) → t < length b → get_or b t var ≡ app s args → TermAsWritten t s args) → OpensAs lim b
 
 -- Whatever covers two values of one symbol and unlike counts is an open place: no narrower pattern does.
 abbrev pub CoversUnlike : Type 0
@@ -63,15 +53,12 @@ CoversUnlike = (p : Pattern) (σ τ : ℕ → Tree) (s : ℕ) (ts us : Trees) �
 
 -- So a line over two terms that stand for terms of one symbol and unlike counts is one open place: its entry i, the answer (that the line has
 -- it: Line.antt, `LineOnAreas`), is open, reads as the place of its class, and nothing else turns or is appended.
-abbrev pub OneOpenPlaceAt : Limits → Type 0
-OneOpenPlaceAt lim = (area : List ℕ) (l r s : ℕ) (ls rs : List ℕ) → T (sound lim area) → let st = state_of area lim in
+abbrev pub OneOpenPlace : Type 0
+OneOpenPlace = (lim : Limits) → Modest lim → (area : List ℕ) (l r s : ℕ) (ls rs : List ℕ) → T (sound lim area) → let st = state_of area lim in
     root st.book st.bound l ≡ app s ls → root st.book st.bound r ≡ app s rs → (length ls ≡ length rs → ⊥)
     → let o = call_add lim area l r in o.refusal ≡ 0 → let st' = state_of o.area lim in
     (i : ℕ) × (o.numbers ≡ i ∷ []) × ((entry st'.entries i).kind ≡ hole) × (entry_reading st' i ≡ variable (entry st'.entries i).same_as)
     × (st'.entries ≡ place st.book st.bound st.entries l r)
-
-abbrev pub OneOpenPlace : Type 0
-OneOpenPlace = (lim : Limits) → Modest lim → OneOpenPlaceAt lim
 
 -- AREAS OF BEFORE. A kind by document 01's rule: common exactly where both sides stand for terms of one symbol, over the entries of the
 -- argument pairs, one for one.
@@ -98,11 +85,8 @@ pub record SoundBefore (lim : Limits) (area : List ℕ) (s : State) : Type 0 whe
   pub line-entries : T (all (λ i. ltb i (length s.entries)) s.lines)
 
 -- It stays sound.
-abbrev pub StaysSoundAt : Limits → Type 0
-StaysSoundAt lim = (area : List ℕ) → SoundBefore lim area (state_of area lim) → T (sound lim area)
-
 abbrev pub StaysSound : Type 0
-StaysSound = (lim : Limits) → StaysSoundAt lim
+StaysSound = (lim : Limits) (area : List ℕ) → SoundBefore lim area (state_of area lim) → T (sound lim area)
 
 -- A book in which each symbol has one count: document 01's rule, which this request lifts.
 abbrev pub OneCount : Book → Type 0

@@ -27,13 +27,10 @@ abbrev pub WalkLongEnough : Type 0
 WalkLongEnough = (b : Book) (β : Bindings) (c : ℕ) (es : Table) → LongEnough b β c es
 
 -- A line that passes the tests before it is refused by 11 exactly where no walk ends within the capacity.
-abbrev pub ElevenOfLineAt : Limits → Type 0
-ElevenOfLineAt lim = (s : State) (l r : ℕ) → l < length s.book → r < length s.book → length s.lines < lim.max_lines
+abbrev pub ElevenOfLine : Type 0
+ElevenOfLine = (lim : Limits) (s : State) (l r : ℕ) → l < length s.book → r < length s.book → length s.lines < lim.max_lines
     → (add_line lim s l r ≡ refused 11)
     ↔ (EndsWithin s.book s.bound s.capacity (place s.book s.bound s.entries l r) → ⊥)
-
-abbrev pub ElevenOfLine : Type 0
-ElevenOfLine = (lim : Limits) → ElevenOfLineAt lim
 
 -- So is a choice.
 abbrev pub ElevenOfChoice : Type 0

@@ -46,7 +46,7 @@ pub table-known : (w : Loaded) → Used w → T (rows_ok w) → {list roots name
 table-known w used rows_ok v =
     known-loaded w.term_rows w.binding_words w.terms _ (good-terms w used rows_ok) v.listed.no_cycle
     (named-loaded w.term_rows w.binding_words w.terms _ (front w.terms _ _ v.is-names) used.entries_fit (entry-rows w used rows_ok))
-    (front w.terms _ _ v.is_roots)
+    (front w.terms _ _ v.is-roots)
 
 -- The whole test, by the tests that were made.
 module _ (w : Loaded) where

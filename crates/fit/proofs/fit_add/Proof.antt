@@ -2,7 +2,7 @@
 use mathlib.Core.Path.{ap, ◌∙◌}
 use mathlib.Core.List.{[], ◌∷◌}
 use borrow.Author.Rules.{rules}
-use Rattle.calls.proofs.steps.Outcomes.{line_added}
+use Rattle.calls.proofs.Outcomes.{line_added}
 use Rattle.fit.proofs.fit_add.Statement.{statement}
 use Rattle.fit.proofs.fit_add.Tie as tie
 

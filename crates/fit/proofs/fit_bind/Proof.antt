@@ -2,7 +2,7 @@
 use mathlib.Core.Path.{ap₂, ◌∙◌}
 use mathlib.Core.List.{[], ◌∷◌}
 use borrow.Author.Rules.{rules}
-use Rattle.calls.proofs.steps.Outcomes.{choice_fixed}
+use Rattle.calls.proofs.Outcomes.{choice_fixed}
 use Rattle.fit.proofs.fit_bind.Statement.{statement}
 use Rattle.fit.proofs.fit_bind.Tie as tie
 

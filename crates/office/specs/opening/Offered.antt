@@ -1,8 +1,8 @@
 -- What the offered functions answer beyond the calls of `model`. Assumes nothing: these are definitions.
-use Rattle.std.specs.Prelude.{ℕ}
+use Rattle.std.specs.Prelude.{cond, ◌&&◌, ℕ, leb}
 use Rattle.model.specs.Limits.{office}
-use Rattle.calls.specs.opening.Needed.{needed_at}
+use Rattle.model.specs.Area.{area_length}
 
 -- The needed length of an area, 0 for a capacity out of range.
-abbrev pub needed_length : ℕ → ℕ
-needed_length = needed_at office
+unfoldable pub needed_length : ℕ → ℕ
+needed_length capacity = cond (leb 1 capacity && leb capacity office.max_capacity) (area_length office capacity) 0

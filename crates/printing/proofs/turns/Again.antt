@@ -11,7 +11,7 @@ use borrow.Author.Tests.{leb-true}
 use Rattle.model.specs.Limits.{office}
 use Rattle.model.specs.Area.{sound, state_of}
 use Rattle.model.specs.Report.{report_bytes}
-use Rattle.model.specs.Call.{refuse, accept, guard, over, emit_with, emit, call_report}
+use Rattle.model.specs.Call.{refuse, accept, guard, over, emit, call_report}
 
 module _ (new area out : List ℕ) where
   -- bytes written twice over the front are there once
@@ -25,13 +25,13 @@ module _ (new area out : List ℕ) where
 
   emit_again_at : (t : Bool) → leb (length new) (length out) ≡ t
       → let o = guard t (refuse 1 13 area out) (accept (length new ∷ []) area (over new out)) in emit new area o.output ≡ o
-  unfolding emit_with emit guard refuse accept
+  unfolding emit guard refuse accept
   emit_again_at true e =
       rw (over-length (leb-true (length new) (length out) e), e, over_again)
   emit_again_at false e = rw e
 
   emit_again : emit new area (emit new area out).output ≡ emit new area out
-  unfolding emit_with emit
+  unfolding emit
   emit_again = emit_again_at (leb (length new) (length out)) refl
 
   guard_again : (t : Bool) → let o = guard t (refuse 1 7 area out) (emit new area out) in

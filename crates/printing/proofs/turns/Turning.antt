@@ -16,8 +16,8 @@ use Rattle.step.specs.declared.answer.Step.TheVariants.{Add, Bind}
 use Rattle.step.specs.declared.answer.StepAnswer.{StepAnswer}
 use Rattle.step.specs.declared.answer.StepAnswer.TheVariants.{Refused}
 use Rattle.step.specs.answer.Stepped.{refusal_number, accepted_as}
-use Rattle.calls.proofs.steps.Outcomes.{accepted-refusal}
-use Rattle.calls.specs.steps.Called.{call_step, answer_to}
+use Rattle.calls.proofs.Outcomes.{accepted-refusal}
+use Rattle.calls.specs.Called.{call_step, answer_to}
 use Rattle.session.specs.declared.command.Command.{Command}
 use Rattle.session.specs.declared.command.Command.TheVariants.{Ended as NoMore, Stopped as Stop, Take, Report}
 use Rattle.session.specs.command.Commands.{command_at}
@@ -70,7 +70,7 @@ module _ (area out : List ℕ) where
   -- a report leaves the area
   report-area : (next : ℕ) → (perform area out (Report next)).area ≡ area
   unfolding perform
-  report-area next = ((demand_1 office).reporting area out).1
+  report-area next = (demand_1.reporting office area out).1
 
   -- after a report its text can be kept
   pub keeps_report : (next n : ℕ) (kept : List ℕ) → let s = perform area out (Report next) in Front kept n (printed s)
@@ -87,8 +87,8 @@ refused_by step o false e r = eqb-false o.refusal 0 e
 
 call_leaves : (step : Step) (area : List ℕ) → ((call_step office step area).refusal ≡ 0 → ⊥) → (call_step office step area).area ≡ area
 unfolding call_step
-call_leaves (Add l r) area h = ((demand_1 office).adding area l r).0.area-stays h
-call_leaves (Bind v t) area h = ((demand_1 office).fixing area v t).0.area-stays h
+call_leaves (Add l r) area h = (demand_1.adding office area l r).0.area-stays h
+call_leaves (Bind v t) area h = (demand_1.fixing office area v t).0.area-stays h
 
 -- area and output of the step are these
 abbrev Leaves : List ℕ → List ℕ → Effect → Type 0
@@ -134,7 +134,7 @@ module _ (input area out : List ℕ) (at : ℕ) where
     unfolding perform
     report_kept n k m =
         rw (by_command input area out at e h)
-        (sym ((demand_1 office).reporting area out).1, (sym (k m next).0, (sym (report_goes_on (call_report office area out) next (length input)), ((k m next).1, k))))
+        (sym (demand_1.reporting office area out).1, (sym (k m next).0, (sym (report_goes_on (call_report office area out) next (length input)), ((k m next).1, k))))
 
     -- a report that is made
     pub report_made : {answer : Reply} {area' out' : List ℕ} → Takes answer area' out' (step_at input area out at)

@@ -16,7 +16,7 @@ use Rattle.model.specs.Limits.{office, session_capacity}
 use Rattle.model.specs.Step.{State, Answer, refused, accepted, add_line, bind}
 use Rattle.model.specs.Report.{report, report_bytes}
 use Rattle.model.specs.BookBytes.{parse_number}
-use Rattle.model.specs.Call.{Outcome, accept, guard, over, emit_with, emit, stepped, call_add, call_bind, call_report}
+use Rattle.model.specs.Call.{Outcome, accept, guard, over, emit, stepped, call_add, call_bind, call_report}
 use Rattle.model.specs.Session as Model
 use Rattle.model.specs.Session.{Printed, steps}
 use Rattle.theory.specs.Lengths.{longest_session_report}
@@ -31,7 +31,7 @@ use Rattle.step.specs.declared.answer.Step.TheVariants.{Add, Bind}
 use Rattle.step.specs.declared.answer.StepAnswer.{StepAnswer}
 use Rattle.step.specs.declared.answer.StepAnswer.TheVariants.{Refused, Added, Bound}
 use Rattle.step.specs.answer.Stepped.{accepted_as}
-use Rattle.calls.specs.steps.Called.{call_step, answer_to}
+use Rattle.calls.specs.Called.{call_step, answer_to}
 use Rattle.session.specs.text.Text.{numbers_in}
 use Rattle.session.proofs.text.Numbers.{numbers_in_lem}
 use Rattle.session.proofs.steps.Lines.{one_number, two_numbers}
@@ -119,7 +119,7 @@ module _ (input : List ℕ) (k : ℕ)
           refusal = ap (λ x. x.refusal) on ∙ stepped-refusal office 1 area (add_line office s l r);
           numbered = answer_numbered office s (add l r);
           line = λ ns s' e. ap (λ xs. 0 ∷ xs)
-              (one_number o.numbers ((demand_1 office).adding area l r).0.as_many ∙ ap (λ x. x.numbers) on ∙
+              (one_number o.numbers (demand_1.adding office area l r).0.as_many ∙ ap (λ x. x.numbers) on ∙
               stepped-numbers 1 area ns (add_line office s l r) s' e);
           after-held = request_held (add l r);
         })
@@ -136,7 +136,7 @@ module _ (input : List ℕ) (k : ℕ)
           refusal = ap (λ x. x.refusal) on ∙ stepped-refusal office 2 area (bind s v t);
           numbered = answer_numbered office s (fix v t);
           line = λ ns s' e. ap (λ xs. 0 ∷ xs)
-              (two_numbers o.numbers ((demand_1 office).fixing area v t).0.as_many ∙ ap (λ x. x.numbers) on ∙
+              (two_numbers o.numbers (demand_1.fixing office area v t).0.as_many ∙ ap (λ x. x.numbers) on ∙
               stepped-numbers 2 area ns (bind s v t) s' e);
           after-held = request_held (fix v t);
         })
@@ -148,7 +148,7 @@ module _ (input : List ℕ) (k : ℕ)
 
     -- so it is accepted
     report-outcome : call_report office area out ≡ accept (length (report_bytes s) ∷ []) area (over (report_bytes s) out)
-    unfolding call emit_with emit guard
+    unfolding call emit guard
     report-outcome =
         call_lives office office-modest s area (ask out) held.lives ∙
         rw (le-leb (length (report_bytes s)) (length out) report-fits)

@@ -18,7 +18,7 @@ use Rattle.step.specs.declared.answer.Step.{Step}
 use Rattle.step.specs.declared.answer.Step.TheVariants.{Add, Bind}
 use Rattle.step.specs.declared.answer.StepAnswer.TheVariants.{Refused}
 use Rattle.step.specs.answer.Stepped.{accepted_as}
-use Rattle.calls.specs.steps.Called.{call_step, answer_to}
+use Rattle.calls.specs.Called.{call_step, answer_to}
 use Rattle.session.specs.text.Text.{numbers_in}
 use Rattle.session.specs.declared.command.Command.{Command}
 use Rattle.session.specs.declared.command.Command.TheVariants.{Ended as NoMore, Stopped as Stop, Take, Report}
@@ -83,9 +83,9 @@ taken-line step o h = go (eqb o.refusal 0)
 answer-line : (area : List ℕ) (step : Step) → let o = call_step office step area in answer_line (answer_to step o) ≡ outcome_line o o.numbers
 unfolding call_step accepted_as answer_line
 answer-line area (Add l r) =
-    taken-line (Add l r) (call_add office area l r) (ap (λ ns. 0 ∷ ns) (one_number _ ((demand_1 office).adding area l r).0.as_many))
+    taken-line (Add l r) (call_add office area l r) (ap (λ ns. 0 ∷ ns) (one_number _ (demand_1.adding office area l r).0.as_many))
 answer-line area (Bind v t) =
-    taken-line (Bind v t) (call_bind office area v t) (ap (λ ns. 0 ∷ ns) (two_numbers _ ((demand_1 office).fixing area v t).0.as_many))
+    taken-line (Bind v t) (call_bind office area v t) (ap (λ ns. 0 ∷ ns) (two_numbers _ (demand_1.fixing office area v t).0.as_many))
 
 pub command_lines_lem : (area out : List ℕ) (c : Command) → let s = perform area out c in lines s.answer s.output ≡ command_lines area out c
 unfolding perform still lines command_lines reported_by outcome_line

@@ -8,7 +8,7 @@ use Rattle.model.specs.Call.{Outcome, call_report}
 use Rattle.theory.proofs.Theorems.{demand_1}
 use Rattle.step.specs.declared.answer.Step.{Step}
 use Rattle.step.specs.declared.answer.StepAnswer.{StepAnswer}
-use Rattle.calls.specs.steps.Called.{call_step, Called}
+use Rattle.calls.specs.Called.{call_step, Called}
 use Rattle.session.specs.declared.command.Command.{Command}
 use Rattle.session.specs.declared.command.Command.TheVariants.{Take, Report}
 use Rattle.session.specs.command.Commands.{command_at}
@@ -67,4 +67,4 @@ module _ (input area out : List ℕ) (at : ℕ) {q : Command} (e : q ≡ command
       → (s ≡ reported_by (call_report office area out) next) × (out' ≡ (call_report office area out).output)
       → Takes s area out' (step_at input area out at)
   unfolding perform
-  reports h g = rw (by_command h) (g.0, (sym ((demand_1 office).reporting area out).1, g.1))
+  reports h g = rw (by_command h) (g.0, (sym (demand_1.reporting office area out).1, g.1))

@@ -7,7 +7,7 @@ use Rattle.leb128.specs.declared.Decoded.{Decoded}
 use Rattle.leb128.specs.declared.Decoded.TheVariants.{Number, Cut, Invalid}
 use Rattle.model.specs.Limits.{office, max_session, session_capacity}
 use Rattle.model.specs.Call.{Outcome, call_open, call_report}
-use Rattle.calls.specs.steps.Called.{call_step, answer_to}
+use Rattle.calls.specs.Called.{call_step, answer_to}
 use Rattle.session.specs.declared.command.Command.{Command}
 use Rattle.session.specs.declared.command.Command.TheVariants.{Ended as NoMore, Stopped as Stop, Take, Report}
 use Rattle.session.specs.command.Commands.{command_at}

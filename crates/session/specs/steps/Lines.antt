@@ -10,7 +10,7 @@ use Rattle.model.specs.Call.{Outcome, call_open, call_report}
 use Rattle.model.specs.Session.{Printed}
 use Rattle.step.specs.declared.answer.StepAnswer.{StepAnswer}
 use Rattle.step.specs.declared.answer.StepAnswer.TheVariants.{Refused, Added, Bound}
-use Rattle.calls.specs.steps.Called.{call_step}
+use Rattle.calls.specs.Called.{call_step}
 use Rattle.session.specs.text.Text.{numbers_in}
 use Rattle.session.specs.declared.command.Command.{Command}
 use Rattle.session.specs.declared.command.Command.TheVariants.{Ended as NoMore, Stopped as Stop, Take, Report}

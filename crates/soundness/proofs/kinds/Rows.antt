@@ -160,10 +160,10 @@ module _ {b : Book} {β : Bindings} {rows roots names entries : List ℕ} {m : �
   root-row = rw (← k.is-root t l) (term-row k.held (at roots t) root-lt)
 
 -- the kind of entry i is tested on the rows of what its sides stand for
-pub kind_roots : {b : Book} {β : Bindings} {rows roots names entries : List ℕ} {m : ℕ} → Known b β rows roots names entries m → {i : ℕ} → i < m →
+pub kind-roots : {b : Book} {β : Bindings} {rows roots names entries : List ℕ} {m : ℕ} → Known b β rows roots names entries m → {i : ℕ} → i < m →
     let es = table_of entries m in
     kind_right b β es (entry es i)
     ≡ kind_ok b β es (entry es i).kind (node_of rows (at roots (at entries (entry_row_words * i)))) (node_of rows (at roots (at entries (entry_row_words * i + 1))))
 unfolding kind_right
-kind_roots {entries = entries} {m = m} k {i} l =
+kind-roots {entries = entries} {m = m} k {i} l =
     rw (entry-left entries m i l, entry-right entries m i l, root-row k (left_lt k.held.named l), root-row k (right_lt k.held.named l))

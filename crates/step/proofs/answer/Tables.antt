@@ -35,7 +35,7 @@ module _ {rows bindings list roots names : List ℕ} {n : ℕ} (v : Valued rows 
   valued-names = named-loaded rows bindings n _ (front n names _ v.is-names) (omega arith) (no_rows n)
 
   pub valued-known : KnownTerms rows roots names (book_of rows n) (bound_of bindings n)
-  valued-known = known-loaded rows bindings n _ v.listed.good v.listed.no_cycle valued-names (front n roots _ v.is_roots)
+  valued-known = known-loaded rows bindings n _ v.listed.good v.listed.no_cycle valued-names (front n roots _ v.is-roots)
 
 -- so are those of a loaded state
 pub ready-known : {lim : Limits} {w : Loaded} {list roots names : List ℕ} → Ready lim w list roots names

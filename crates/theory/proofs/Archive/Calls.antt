@@ -14,7 +14,7 @@ use Rattle.model.specs.Lists.{all, is_empty}
 use Rattle.model.specs.Term.{var, Book}
 use Rattle.model.specs.Report.{number_bytes}
 use Rattle.model.specs.BookBytes.{Parsed, parsed, unparsed, and_then, need, parse_number, parse_book, book_bytes}
-use Rattle.model.specs.Call.{refuse, accept, guard, over, emit_with, emit, copy_parsed}
+use Rattle.model.specs.Call.{refuse, accept, guard, over, emit, copy_parsed}
 use Rattle.model.specs.Archive.{variables_first, new_number, old_number, renumbered, moved, stored_book, restored_book, parse_numbers, all_distinct, parse_list, arguments_lower, restore_by, parse_restored, call_restore, Stored, not_stored, emit_both, store_parsed, call_store}
 use Rattle.theory.specs.Tests.{ArgumentsLower}
 use Rattle.theory.specs.Archive.{EachOnce, Renumbers, OpensAs, Stores, StoresAsAsked, StoredRestores, RestoredFrom, RestoresAsAsked, Restores, RestoresWhereItOpens, WithoutSeven, Archive}
@@ -263,7 +263,7 @@ module _ (k : ℕ) (accepted : T (not (eqb 0 k))) (short : T (not (eqb 13 k))) w
   not_at n h e = let z : T (not (eqb k k)) = rw e at h in rw (T_true (eqb k k) (eqb_refl k)) at z
 
   pub copy_not : (out : List ℕ) (p : Parsed Book) → RefusedBy (λ n. not (eqb n k)) p → (copy_parsed out p).refusal ≡ k → ⊥
-  unfolding copy_parsed emit_with emit refuse guard accept
+  unfolding copy_parsed emit refuse guard accept
   copy_not out (unparsed n) h z = not_at n h z
   copy_not out (parsed b rest) h z = go (leb (length (book_bytes b)) (length out)) z
     where
@@ -283,10 +283,10 @@ module _ (k : ℕ) (accepted : T (not (eqb 0 k))) (short : T (not (eqb 13 k))) w
 
 without_seven : WithoutSeven
 unfolding call_store call_restore
-without_seven lim = (
-  λ book out list. store_not 7 tt tt out list (parse_book lim book)
+without_seven = (
+  λ lim book out list. store_not 7 tt tt out list (parse_book lim book)
       (refused_too of_archive (λ n. not (eqb n 7)) not_seven (parse_book lim book) (book_too (parse_book lim book) (book-refused lim book))),
-  λ book list out. copy_not 7 tt tt out (parse_restored lim book list)
+  λ lim book list out. copy_not 7 tt tt out (parse_restored lim book list)
       (refused_too of_archive (λ n. not (eqb n 7)) not_seven (parse_restored lim book list) (restored_refused lim book list)),
 )
 
@@ -316,7 +316,7 @@ module _ (lim : Limits) (book bytes out : List ℕ) (w : T (are_bytes bytes)) wh
       }
 
   restores_at : (p : Parsed Book) → parse_restored lim book bytes ≡ p → (copy_parsed out p).refusal ≡ 0 → RestoredFrom lim book bytes (copy_parsed out p)
-  unfolding copy_parsed emit_with emit refuse
+  unfolding copy_parsed emit refuse
   restores_at (unparsed n) e z = absurd (rw (e, z) at (restored_positive lim book bytes))
   restores_at (parsed b rest) e z = restored_written b (restored_by lim book bytes b rest e) (leb (length (book_bytes b)) (length out)) z
 

@@ -111,11 +111,11 @@ module _ (lim : Limits) (s : State) (sound : SoundFacts lim s) where
           → root s.book s.bound (entry s.entries i).right ≡ r → CommonRight s.book s.bound s.entries c args l r
           → ReadsEntry s (apply c (patterns f args)) i
       unfolding alike symbol arguments left_value right_value height
-      reads-common c args var r p q g = let z : ◌≡◌ {A = ℕ} 0 1 = cc g.alike_roots in absurd (omega arith)
-      reads-common c args (app a ls) var p q g = let z : ◌≡◌ {A = ℕ} 0 1 = cc g.alike_roots in absurd (omega arith)
+      reads-common c args var r p q g = let z : ◌≡◌ {A = ℕ} 0 1 = cc g.alike-roots in absurd (omega arith)
+      reads-common c args (app a ls) var p q g = let z : ◌≡◌ {A = ℕ} 0 1 = cc g.alike-roots in absurd (omega arith)
       reads-common c args (app a ls) (app a' rs) p q g =
           let e : a ≡ c = sym g.the_symbol in
-          let e' : a' ≡ c = sym (eqb→eq a a' (and_left (eqb a a') _ (true_T _ g.alike_roots))) ∙ e in
+          let e' : a' ≡ c = sym (eqb→eq a a' (and_left (eqb a a') _ (true_T _ g.alike-roots))) ∙ e in
           let x : left_value s i ≡ node c (trees v ls) = val-root (entry s.entries i).left a ls (sound.table.left-term i here) p ∙ rw e in
           let y : right_value s i ≡ node c (trees v rs) = val-root (entry s.entries i).right a' rs (sound.table.right-term i here) q ∙ rw e' in
           rw (x, y)

@@ -146,18 +146,15 @@ pub no_six : NoSix
 unfolding call_open call_copy call_store call_restore fine none_six
 no_six =
     record {
-      calls = λ lim.
-          record {
-            parses = λ bytes e. not_six_lem 6 (rw e at (book-not_six lim bytes)) refl;
-            opening = λ capacity book area. open_not_six lim capacity area _ _ (parse_book lim book) (book-not_six lim book);
-            adding = λ area l r. decided-not (add_tests lim area l r) _ tt ((demand_1 lim).adding area l r).0.decided;
-            fixing = λ area v t. decided-not (bind_tests lim area v t) _ tt ((demand_1 lim).fixing area v t).0.decided;
-            reading = λ area i. decided-not (entry_tests lim area i) _ tt ((demand_1 lim).reading area i).0.decided;
-            reporting = λ area out. decided-not (report_tests lim area out) _ tt ((demand_1 lim).reporting area out).0.decided;
-            writing = λ area out. decided-not (write_tests lim area out) _ tt ((demand_1 lim).writing area out).0.decided;
-            copying = λ book out. copy_not 6 tt tt out (parse_book lim book) (book-not_six lim book);
-            storing = λ book out list. store_not 6 tt tt out list (parse_book lim book) (book-not_six lim book);
-            restoring = λ book list out. copy_not 6 tt tt out (parse_restored lim book list) (restored_not_six lim book list);
-          };
+      parses = λ lim bytes e. not_six_lem 6 (rw e at (book-not_six lim bytes)) refl;
+      opening = λ lim capacity book area. open_not_six lim capacity area _ _ (parse_book lim book) (book-not_six lim book);
+      adding = λ lim area l r. decided-not (add_tests lim area l r) _ tt (demand_1.adding lim area l r).0.decided;
+      fixing = λ lim area v t. decided-not (bind_tests lim area v t) _ tt (demand_1.fixing lim area v t).0.decided;
+      reading = λ lim area i. decided-not (entry_tests lim area i) _ tt (demand_1.reading lim area i).0.decided;
+      reporting = λ lim area out. decided-not (report_tests lim area out) _ tt (demand_1.reporting lim area out).0.decided;
+      writing = λ lim area out. decided-not (write_tests lim area out) _ tt (demand_1.writing lim area out).0.decided;
+      copying = λ lim book out. copy_not 6 tt tt out (parse_book lim book) (book-not_six lim book);
+      storing = λ lim book out list. store_not 6 tt tt out list (parse_book lim book) (book-not_six lim book);
+      restoring = λ lim book list out. copy_not 6 tt tt out (parse_restored lim book list) (restored_not_six lim book list);
       in_sessions = λ bytes i e. rw e at (line_fine (session bytes) i (session_fine bytes));
     }

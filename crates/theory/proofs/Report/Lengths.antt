@@ -20,7 +20,7 @@ use Rattle.model.specs.Step.{State}
 use Rattle.model.specs.Report.{number, kind_numbers, entry_numbers, report, number_bytes, report_bytes}
 use Rattle.model.specs.BookBytes.{Parsed, parsed, unparsed, parse_book, node_numbers, book_bytes}
 use Rattle.model.specs.Area.{sound_state, sound, state_of}
-use Rattle.model.specs.Call.{refuse, accept, guard, emit_with, emit, copy_parsed, call_report, call_write, call_copy}
+use Rattle.model.specs.Call.{refuse, accept, guard, emit, copy_parsed, call_report, call_write, call_copy}
 use Rattle.model.specs.Archive.{variables_first, stored_book, parse_restored, call_restore, emit_both, store_parsed, call_store}
 use Rattle.theory.specs.Modest.{Modest}
 use Rattle.theory.specs.Archive.{EachOnce, OpensAs}
@@ -221,7 +221,7 @@ module _ (book : List ℕ) (b : Book) (rest : List ℕ) (h : T (are_bytes book))
   office-book-read = let r = book-read office office-modest book b rest h e in omega (arith, r.0, r.1)
 
   copy_room : (out : List ℕ) → longest_book ≤ length out → (call_copy office book out).refusal ≡ 0
-  unfolding call_copy copy_parsed guard emit_with emit accept
+  unfolding call_copy copy_parsed guard emit accept
   copy_room out l =
       let f = parsed_formed office book b rest e in
       let fits : length (book_bytes b) ≤ length out = omega (arith, f.1, book-long b _ f.0 (omega (arith, f.1))) in
@@ -230,11 +230,11 @@ module _ (book : List ℕ) (b : Book) (rest : List ℕ) (h : T (are_bytes book))
 -- a book, or a report, of a sound area that fits is not refused
 module _ (area out : List ℕ) (h : T (sound office area)) where
   book-room : length (book_bytes (state_of area office).book) ≤ length out → (call_write office area out).refusal ≡ 0
-  unfolding call_write guard emit_with emit accept
+  unfolding call_write guard emit accept
   book-room l = rw (T_true (sound office area) h, le-leb (length (book_bytes (state_of area office).book)) (length out) l)
 
   report-room : length (report_bytes (state_of area office)) ≤ length out → (call_report office area out).refusal ≡ 0
-  unfolding call_report guard emit_with emit accept
+  unfolding call_report guard emit accept
   report-room l = rw (T_true (sound office area) h, le-leb (length (report_bytes (state_of area office))) (length out) l)
 
 -- what is stored and restored, where it fits
@@ -257,7 +257,7 @@ restored_fits bytes list out b rest e p =
     le-leb (length (book_bytes b)) (length out) (omega (arith, few, book_restored office office-modest bytes list b rest e))
 
 room_to_restore : (bytes list out : List ℕ) → longest_book ≤ length out → (call_restore office bytes list out).refusal ≡ 13 → ⊥
-unfolding call_restore copy_parsed emit_with emit guard refuse accept
+unfolding call_restore copy_parsed emit guard refuse accept
 room_to_restore bytes list out p z = go (parse_restored office bytes list) refl z
   where
     go : (q : Parsed Book) → parse_restored office bytes list ≡ q → (copy_parsed out q).refusal ≡ 13 → ⊥
@@ -271,15 +271,9 @@ state-sound area h = facts_sound office (state_of area office) (sound_carries of
 pub lengths : Lengths
 lengths =
     record {
-      at-limits = λ lim m.
-          record {
-            book-read = λ bytes b rest h e. (book-read lim m bytes b rest h e).0;
-            book-written = book-written lim m;
-            report-written = report-written lim m;
-            book_stored = book_stored lim m;
-            list_stored = list_stored lim m;
-            book_restored = book_restored lim m;
-          };
+      book-read = λ lim m bytes b rest h e. (book-read lim m bytes b rest h e).0;
+      book-written = book-written;
+      report-written = report-written;
       office-book-read = office-book-read;
       office-book = office-book;
       report-at-capacity = report-at-capacity;
@@ -290,6 +284,9 @@ lengths =
       room-at-capacity = λ area out h l. report-room area out h (omega (arith, report-at-capacity (state_of area office) (state-sound area h)));
       room_for_report = λ area out h l. report-room area out h (omega (arith, office-report (state_of area office) (state-sound area h)));
       room_in_session = λ area out h e l. report-room area out h (omega (arith, session-report (state_of area office) (state-sound area h) e));
+      book_stored = book_stored;
+      list_stored = list_stored;
+      book_restored = book_restored;
       room_to_store = room_to_store;
       room_to_restore = room_to_restore;
       stored_and_back = λ book out list back b rest w e p q.

@@ -167,8 +167,8 @@ module _ (b : Book) (β : Bindings) (formed : Formed b β) (acyclic : Acyclic b 
       go : (k k' : Kind) → KindRight b β es k (root b β l) (root b β r) → KindRight b β es' k' (root b β l') (root b β r')
           → MatchKind (Match b β es es') k k'
       go hole hole h g = holes
-      go hole (common s' args') h g = absurd (true_not_false _ g.alike_roots (sym alike_both ∙ h))
-      go (common s args) hole h g = absurd (true_not_false _ h.alike_roots (alike_both ∙ g))
+      go hole (common s' args') h g = absurd (true_not_false _ g.alike-roots (sym alike_both ∙ h))
+      go (common s args) hole h g = absurd (true_not_false _ h.alike-roots (alike_both ∙ g))
       go (common s args) (common s' args') h g =
           let same : s ≡ s' = h.the_symbol ∙ same-value-symbol b β formed acyclic l l' lt lt' p ∙ sym g.the_symbol in
           let count : length args ≡ length args' =

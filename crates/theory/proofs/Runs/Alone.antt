@@ -28,8 +28,8 @@ module _ (lim : Limits) where
   -- a report leaves the area
   report_unmoved : (area out : List ℕ) (t : Bool)
       → (guard t (refuse 1 7 area out) (emit (report_bytes (state_of area lim)) area out)).area ≡ area
-  unfolding guard refuse emit
-  report_unmoved area out true = emit-area lim _ (report_bytes (state_of area lim)) area out
+  unfolding guard refuse
+  report_unmoved area out true = emit-area lim (report_bytes (state_of area lim)) area out
   report_unmoved area out false = refl
 
   -- a call that is no accepted step leaves the area

@@ -11,7 +11,7 @@ use Rattle.model.specs.Limits.{Limits}
 use Rattle.model.specs.Step.{State, Answer, refused, accepted, add_line, bind}
 use Rattle.model.specs.Report.{report_bytes}
 use Rattle.model.specs.Area.{area_length, area_bytes, sound, state_of}
-use Rattle.model.specs.Call.{Outcome, refuse, accept, guard, over, emit_with, emit, stepped, call_add, call_bind, call_report}
+use Rattle.model.specs.Call.{Outcome, refuse, accept, guard, over, emit, stepped, call_add, call_bind, call_report}
 use Rattle.theory.specs.Modest.{Modest}
 use Rattle.theory.specs.Run.{Request, add, fix, ask, call, run, accepted_of, NoneRefused, is_accepted, after, reported, answer, next, state_run, AllAccepted}
 use Rattle.theory.proofs.Soundness.Facts.{SoundFacts}
@@ -52,7 +52,7 @@ module _ (lim : Limits) where
   guard-refusal s new area out false = refl
 
   pub refusal_on : (s : State) (area : List ℕ) (q : Request) → (call_on s area q).refusal ≡ refusal_of (answer lim s q)
-  unfolding emit_with emit
+  unfolding emit
   refusal_on s area (add l r) = stepped-refusal 1 area (add_line lim s l r)
   refusal_on s area (fix v t) = stepped-refusal 2 area (bind s v t)
   refusal_on s area (ask out) = guard-refusal s (report_bytes s) area out (leb (length (report_bytes s)) (length out))
@@ -74,16 +74,17 @@ module _ (lim : Limits) where
   stepped-area count area (refused n) = refl
   stepped-area count area (accepted ns s) = refl
 
-  -- emitting bytes leaves the area, by whether they fit
-  guard-area : (ns new area out : List ℕ) (t : Bool)
-      → (guard t (refuse (length ns) 13 area out) (accept ns area (over new out))).area ≡ area
+  -- a report leaves the area, by whether it fits
+  guard-area : (new area out : List ℕ) (t : Bool)
+      → (guard t (refuse 1 13 area out) (accept (length new ∷ []) area (over new out))).area ≡ area
   unfolding guard refuse accept
-  guard-area ns new area out true = refl
-  guard-area ns new area out false = refl
+  guard-area new area out true = refl
+  guard-area new area out false = refl
 
-  pub emit-area : (ns new area out : List ℕ) → (emit_with ns new area out).area ≡ area
-  unfolding emit_with
-  emit-area ns new area out = guard-area ns new area out (leb (length new) (length out))
+  -- a report leaves the area
+  pub emit-area : (new area out : List ℕ) → (emit new area out).area ≡ area
+  unfolding emit
+  emit-area new area out = guard-area new area out (leb (length new) (length out))
 
   -- a report leaves the state
   pub reported-after : (s : State) (new : List ℕ) (t : Bool) → after s (reported s new t) ≡ s
@@ -109,7 +110,6 @@ module _ (lim : Limits) where
 
   -- so does the area that a call leaves
   follows_on : (s : State) (area : List ℕ) (q : Request) → Lives lim s area → Follows (next lim s q) area (call_on s area q).area
-  unfolding emit
   follows_on s area (add l r) v =
       rw (stepped-area 1 area (add_line lim s l r))
       (follows_answer s area (add_line lim s l r) v (next-sound lim s (add l r) v.facts) (next-capacity lim s (add l r) v.facts))
@@ -117,7 +117,7 @@ module _ (lim : Limits) where
       rw (stepped-area 2 area (bind s x t))
       (follows_answer s area (bind s x t) v (next-sound lim s (fix x t) v.facts) (next-capacity lim s (fix x t) v.facts))
   follows_on s area (ask out) v =
-      rw (emit-area, reported-after s (report_bytes s) (leb (length (report_bytes s)) (length out)))
+      rw (emit-area (report_bytes s) area out, reported-after s (report_bytes s) (leb (length (report_bytes s)) (length out)))
       (record { same_length = refl; lives = v })
 
   -- a sound area carries its state

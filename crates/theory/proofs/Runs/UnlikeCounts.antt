@@ -96,7 +96,7 @@ unlike_terms s ls rs l r p q unlike =
 -- an entry of two terms that are not alike is open
 unlike_open : (b : Book) (β : Bindings) (es : Table) (k : Kind) (l r : Node) → KindRight b β es k l r → alike l r ≡ false → k ≡ hole
 unlike_open b β es hole l r h e = refl
-unlike_open b β es (common s args) l r h e = absurd (true≢false (sym h.alike_roots ∙ e))
+unlike_open b β es (common s args) l r h e = absurd (true≢false (sym h.alike-roots ∙ e))
 
 -- What is said of the line (l, r), from the state before it to the one after it.
 abbrev Opened : State → ℕ → ℕ → State → List ℕ → Type 0
@@ -179,7 +179,7 @@ kind_before b β es (common s args) l r (ls, rs, p, q, h) =
       right-count = sym f.count-right ∙ f.count_left;
     } in
     record {
-      alike_roots = T_true _ (one-root-alike s (length ls) l r o);
+      alike-roots = T_true _ (one-root-alike s (length ls) l r o);
       the_symbol = rw p;
       count_left = rw p f.count_left;
       count-right = rw q f.count-right;

@@ -108,7 +108,7 @@ module _ (b : Book) (β : Bindings) (es : Table) where
       let g : _ = (and₃ (alike l r) (eqb s (symbol l)) (arguments_ok b β es args (arguments l) (arguments r))).0 h in
       let f : ArgumentFacts args (arguments l) (arguments r) = argument_facts args (arguments l) (arguments r) g.2 in
       record {
-        alike_roots = T_true (alike l r) g.0;
+        alike-roots = T_true (alike l r) g.0;
         the_symbol = eqb→eq s (symbol l) g.1;
         count_left = f.count_left;
         count-right = f.count-right;
@@ -120,7 +120,7 @@ module _ (b : Book) (β : Bindings) (es : Table) where
   facts_kind hole l r h = rw h tt
   facts_kind (common s args) l r f =
       (and₃ (alike l r) (eqb s (symbol l)) (arguments_ok b β es args (arguments l) (arguments r))).1 (
-        true_T (alike l r) f.alike_roots,
+        true_T (alike l r) f.alike-roots,
         eq-T s (symbol l) f.the_symbol,
         facts_argument args (arguments l) (arguments r)
             (record { count_left = f.count_left; count-right = f.count-right; argument = f.argument }),

@@ -61,9 +61,9 @@ module _ (b : Book) (β : Bindings) (formed : Formed b β) (acyclic : Acyclic b 
   common-bound : (s : ℕ) (args : List ℕ) (l r : ℕ) → l < length b → r < length b → CommonRight b β es s args (root b β l) (root b β r)
       → CommonRight b β' es s args (root b β' l) (root b β' r)
   common-bound s args l r p q c =
-      rw (left-stays l r p c.alike_roots, right-stays l r q c.alike_roots)
+      rw (left-stays l r p c.alike-roots, right-stays l r q c.alike-roots)
       (record {
-        alike_roots = c.alike_roots;
+        alike-roots = c.alike-roots;
         the_symbol = c.the_symbol;
         count_left = c.count_left;
         count-right = c.count-right;

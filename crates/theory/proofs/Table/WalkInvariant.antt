@@ -46,7 +46,7 @@ module _ (b : Book) (β : Bindings) where
       → CommonRight b β es s args l r → CommonRight b β es' s args l r
   common_extends es es' s args l r x c =
       record {
-        alike_roots = c.alike_roots;
+        alike-roots = c.alike-roots;
         the_symbol = c.the_symbol;
         count_left = c.count_left;
         count-right = c.count-right;
@@ -173,7 +173,7 @@ module _ (b : Book) (β : Bindings) (formed : Formed b β) (acyclic : Acyclic b 
     turned_right : CommonRight b β new (symbol l) args l r
     turned_right =
         record {
-          alike_roots = same;
+          alike-roots = same;
           the_symbol = refl;
           count_left = args_length;
           count-right = args_length ∙ counts;

@@ -9,7 +9,7 @@ use native.Mathlib.Omega.{arith}
 use lib.ListN.{length, get_or}
 use lib.Dec.{T, eqb, eqb→eq, eqb_refl}
 use Rattle.model.specs.Lists.{all, from}
-use Rattle.model.specs.Term.{Node, var, app, symbol, arguments, alike, Book, Bindings, Tree, free, node, Trees, nil, more, count, trees, value_step, value, ends_step, ends, deref_step, deref, eq_tree, eq_trees, val, root, name_of, name}
+use Rattle.model.specs.Term.{Node, var, app, symbol, arguments, alike, Book, Bindings, Tree, free, node, Trees, nil, more, count, trees, value_step, value, ends_step, ends, deref_step, deref, eq_tree, eq_trees, val, root, name}
 use Rattle.model.specs.Table.{Entry, holds}
 use Rattle.theory.proofs.Lists.Laws.{and_left, and_right, and_both, true_T, first_holds, first-least, length_from, get_or-from}
 use Rattle.theory.proofs.Soundness.Facts.{Formed, Acyclic}
@@ -226,15 +226,15 @@ module _ (b : Book) (β : Bindings) (formed : Formed b β) (acyclic : Acyclic b 
   root-argument t l j h = omega (arith, formed.lower (deref b β (length b) t) (deref-lt t l) j h, deref-lt t l)
 
   -- roots are alike exactly when the values have one root symbol over as many subtrees
-  alike_roots : (l r : ℕ) → l < length b → r < length b → (m n : Node) → root b β l ≡ m → root b β r ≡ n
+  alike-roots : (l r : ℕ) → l < length b → r < length b → (m n : Node) → root b β l ≡ m → root b β r ≡ n
       → alike m n ≡ alike_trees (val b β l) (val b β r)
   unfolding alike alike_trees count
-  alike_roots l r p q var n e g = rw (root-var l p e)
-  alike_roots l r p q (app s args) var e g = rw (root-app l s args p e, root-var r q g)
-  alike_roots l r p q (app s args) (app s' args') e g = rw (root-app l s args p e, root-app r s' args' q g, count-trees, count-trees)
+  alike-roots l r p q var n e g = rw (root-var l p e)
+  alike-roots l r p q (app s args) var e g = rw (root-app l s args p e, root-var r q g)
+  alike-roots l r p q (app s args) (app s' args') e g = rw (root-app l s args p e, root-app r s' args' q g, count-trees, count-trees)
 
   pub alike-values : (l r : ℕ) → l < length b → r < length b → alike (root b β l) (root b β r) ≡ alike_trees (val b β l) (val b β r)
-  alike-values l r p q = alike_roots l r p q (root b β l) (root b β r) refl refl
+  alike-values l r p q = alike-roots l r p q (root b β l) (root b β r) refl refl
 
   -- the symbol and the arguments' values of a root are read off the value
   value-symbol : (t : ℕ) → t < length b → (n : Node) → root b β t ≡ n → tree_symbol (val b β t) ≡ symbol n
@@ -277,33 +277,24 @@ module _ (b : Book) (β : Bindings) where
   term-at : (u : ℕ) → u < length b → get_or (from 0 (length b)) u 0 ≡ u
   term-at u l = get_or-from 0 (length b) u 0 l ∙ omega arith
 
-  -- no term with the value v is lower than its name
-  pub name_of_least : (v : Tree) (u : ℕ) → u < length b → val b β u ≡ v → name_of b β v ≤ u
-  unfolding name_of
-  name_of_least v u l h =
-      first-least (λ w. eq_tree (val b β w) v) (from 0 (length b)) 0 u (rw length_from l) (rw (term-at u l, h) (eq_tree_refl v))
-
-  -- the term that `name_of` finds, where there is one, passes, so it has this value
-  name_passes : (v : Tree) (t : ℕ) → t < length b → val b β t ≡ v → T (eq_tree (val b β (get_or (from 0 (length b)) (name_of b β v) 0)) v)
-  unfolding name_of
-  name_passes v t l h =
-      first_holds (λ u. eq_tree (val b β u) v) (from 0 (length b)) 0 (rw length_from (omega (arith, name_of_least v t l h)))
-
-  pub val-name_of : (v : Tree) (t : ℕ) → t < length b → val b β t ≡ v → val b β (name_of b β v) ≡ v
-  val-name_of v t l h =
-      eq_tree-eq _ _ (rw (term-at (name_of b β v) (omega (arith, name_of_least v t l h))) at (name_passes v t l h))
-
-  -- the same of the name of t's value, which is a term and has this value
+  -- no term of t's value is lower than its name; the name is a term, and has t's value
   pub name-least : (t u : ℕ) → u < length b → val b β u ≡ val b β t → name b β t ≤ u
   unfolding name
-  name-least t = name_of_least (val b β t)
+  name-least t u l h =
+      first-least (λ v. eq_tree (val b β v) (val b β t)) (from 0 (length b)) 0 u (rw length_from l)
+      (rw (term-at u l, h) (eq_tree_refl (val b β t)))
 
   pub name-lt : (t : ℕ) → t < length b → name b β t < length b
   name-lt t l = omega (arith, name-least t t l refl)
 
-  pub val-name : (t : ℕ) → t < length b → val b β (name b β t) ≡ val b β t
+  -- the term that `name` finds passes
+  name_passes : (t : ℕ) → t < length b → T (eq_tree (val b β (get_or (from 0 (length b)) (name b β t) 0)) (val b β t))
   unfolding name
-  val-name t l = val-name_of (val b β t) t l refl
+  name_passes t l =
+      first_holds (λ v. eq_tree (val b β v) (val b β t)) (from 0 (length b)) 0 (rw length_from (name-lt t l))
+
+  pub val-name : (t : ℕ) → t < length b → val b β (name b β t) ≡ val b β t
+  val-name t l = eq_tree-eq _ _ (rw (term-at (name b β t) (name-lt t l)) at (name_passes t l))
 
   -- terms have one value exactly when they have one name
   pub same-value-name : (t u : ℕ) → val b β t ≡ val b β u → name b β t ≡ name b β u

@@ -33,4 +33,4 @@ module _ {rows bindings list : List ℕ} {n : ℕ} where
       → roots ≡ map (deref (book_of rows n) (bound_of bindings n) n) (from 0 n) ++ xs
       → names ≡ map (name (book_of rows n) (bound_of bindings n)) (from 0 n) ++ ys → Valued rows bindings list roots names n
   valued l roots names xs ys r s =
-      record { listed = l; is_roots = take-written _ n roots xs r; is-names = take-written _ n names ys s }
+      record { listed = l; is-roots = take-written _ n roots xs r; is-names = take-written _ n names ys s }

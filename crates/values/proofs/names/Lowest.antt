@@ -11,7 +11,7 @@ use lib.ListN.{length, get_or, drop, set, length-set}
 use lib.Seq.{get_or-set_same, get_or-set_other, drop-set-lt}
 use lib.Dec.{eqb, eqb→eq, eqb_refl}
 use Rattle.model.specs.Lists.{from}
-use Rattle.model.specs.Term.{Book, Bindings, eq_tree, val, name_of, name}
+use Rattle.model.specs.Term.{Book, Bindings, eq_tree, val, name}
 use Rattle.theory.proofs.Lists.Laws.{same_test, first-least, first_alike, length_from, get_or-from}
 use Rattle.theory.proofs.Table.Search.{lt-or-le, eq-or-not}
 use Rattle.theory.proofs.Values.Equations.{eq_tree-eq, eq_tree_refl}
@@ -47,7 +47,7 @@ module _ (classes : List ℕ) (n t : ℕ) (t_term : t < n) where
 -- the lowest term of each class is the name, where classes are those of the values
 pub lowest-names : (b : Book) (β : Bindings) (classes : List ℕ) (n : ℕ) → length b ≡ n → SameClasses b β classes n
     → map (lowest_same classes n) (from 0 n) ≡ map (name b β) (from 0 n)
-unfolding lowest_same name_of name
+unfolding lowest_same name
 lowest-names b β classes n size s =
     map-from-same (lowest_same classes n) (name b β) 0 n
     (λ t l.

@@ -10,7 +10,7 @@ use Rattle.values.specs.names.Classes.{Scratch}
 -- The list has the n terms, each behind what its value is made of; then what each term stands for, and its name.
 pub record Valued (rows bindings list roots names : List ℕ) (n : ℕ) : Type 0 where
   pub listed : Listed rows bindings list n
-  pub is_roots : take n roots ≡ map (deref (book_of rows n) (bound_of bindings n) n) (from 0 n)
+  pub is-roots : take n roots ≡ map (deref (book_of rows n) (bound_of bindings n) n) (from 0 n)
   pub is-names : take n names ≡ map (name (book_of rows n) (bound_of bindings n)) (from 0 n)
 
 -- The slices have room for the values of n terms; those behind `names` are scratch, and so is `roots` at first.

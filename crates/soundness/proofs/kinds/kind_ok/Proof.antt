@@ -4,7 +4,7 @@ use Prim.Native.Nat.{◌<◌}
 use native.Mathlib.Omega.{arith}
 use borrow.Author.Rules.{rules}
 use lib.ListN.{length}
-use Rattle.soundness.proofs.kinds.Rows.{is-left, is_right, left_side, right_side, root-lt, kind_roots}
+use Rattle.soundness.proofs.kinds.Rows.{is-left, is_right, left_side, right_side, root-lt, kind-roots}
 use Rattle.soundness.proofs.kinds.kind_ok.Statement.{statement}
 use Rattle.soundness.proofs.kinds.kind_ok.Tie as tie
 
@@ -51,7 +51,7 @@ returns c b β k =
     let n = k.held.named in
     let given = read.entry_at.ensures in
     c.kind-fits.ensures b β (k.held, root-lt k (left_side n l _ given), root-lt k (right_side n l _ given)) ∙
-    rw (is-left n l _ given, is_right n l _ given) (sym (kind_roots k l))
+    rw (is-left n l _ given, is_right n l _ given) (sym (kind-roots k l))
 
 pub kind-ok-spec : {M : Type 1} → statement M
 kind-ok-spec =

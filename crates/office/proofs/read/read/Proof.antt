@@ -1,0 +1,33 @@
+-- `read::read` meets its contract: the arrays have the sizes of the limits. Assumes nothing.
+use borrow.Author.Rules.{rules}
+use Rattle.office.proofs.read.read.Statement.{statement}
+use Rattle.office.proofs.read.read.Tie as tie
+
+returns : tie.Need-returns
+returns c =
+    let t = c.before.before.before.before.before.before.before.before.before.before.before.before.before.before.sound in (
+      t.ensures.0,
+      λ h. record {
+        bindings = t.new.1.1.1.0;
+        list = t.new.1.1.1.1.0;
+        roots = t.new.1.1.1.1.1.0;
+        read = t.ensures.1 h;
+      },
+    )
+
+pub read_spec : {M : Type 1} → statement M
+read_spec =
+    tie.close
+    (tie.spec
+    (λ c. search rules)
+    (λ c. search rules)
+    (λ c. search rules)
+    (λ c. search rules)
+    (λ c. search rules)
+    (λ c. search rules)
+    (λ c κs. search rules)
+    (λ c. search rules)
+    (λ c. search rules)
+    (λ c. search rules)
+    (λ c. search rules)
+    returns)

@@ -1,0 +1,84 @@
+-- `reports::report` meets its contract. Where the area is sound, what was read of it tells its state, and that state is reported.
+-- Assumes nothing.
+use mathlib.Core.Path.{◌≡◌, sym, ◌∙◌}
+use mathlib.Core.Bool.{true}
+use Prim.Native.Nat.{◌*◌, ◌≤◌}
+use native.Mathlib.Omega.{arith}
+use borrow.Author.Rules.{rules}
+use borrow.Author.Tests.{not-true, not-false}
+use lib.ListN.{length}
+use lib.Seq.{length-take-le}
+use Rattle.model.specs.Limits.{office}
+use Rattle.model.specs.Area.{entry_row_words, sound, state_of}
+use Rattle.theory.proofs.Lists.Laws.{true_T}
+use Rattle.area.proofs.load.Uses.{sound_header, read-entries}
+use Rattle.office.specs.read.Viewed.{Viewed}
+use Rattle.office.proofs.reports.Reported.{report_seven, cut_fits, lines_fit, few-lines, few-entries, read_told, written-report}
+use Rattle.office.proofs.reports.report.Statement.{statement}
+use Rattle.office.proofs.reports.report.Tie as tie
+
+-- past the test the area is sound, and its parts are loaded
+is-sound : (e : tie.Else1) → sound office e.before.before.before.before.before.before.before.before.before.before.before.before.args.area.now ≡ true
+is-sound e = sym e.before.before.before.before.before.read.ensures.0 ∙ not-false _ e.if1.false
+
+is_held : (e : tie.Else1) → let r = e.before.before.before.before.before.read.new in Viewed e.before.before.before.before.before.before.before.before.before.before.before.before.args.area.now r.1.0 r.1.1.0 r.1.1.1.0 r.1.1.1.1.0
+is_held e = e.before.before.before.before.before.read.ensures.1 (not-false _ e.if1.false)
+
+returns : tie.Need-returns
+returns c = report_seven _ _ (sym c.before.before.before.before.before.read.ensures.0 ∙ not-true _ c.if1.true)
+
+load-header-requires : tie.Need-load-header-requires
+load-header-requires c κs = sound_header office _ (true_T _ (is-sound c))
+
+-- its rows and its lines lie in their slices
+table-within : (h : tie.After-load-header) → entry_row_words * h.load-header.result.capacity ≤ length h.before.before.before.before.before.before.read.new.1.1.1.1.0
+table-within h = cut_fits (is_held h.before) _ h.load-header.ensures.0
+
+lines-within : (h : tie.After-load-header) → h.load-header.result.lines ≤ length h.before.before.before.before.before.before.read.new.1.1.1.0
+lines-within h = lines_fit (is_held h.before) _ h.load-header.ensures.3
+
+report-requires : tie.Need-report-requires
+report-requires c κs =
+    let h = c.before.before.before.before.before.before.before.before.before.before.before in
+    let e = h.before in
+    let n = h.load-header.ensures in
+    let few = few-entries (is_held e) in (
+      record { state = state_of _ office; holds = (read_told (is_held e) _ _ n.0 n.3, n.2 ∙ sym (read-entries (is_held e).read)) },
+      (record { met_fit = omega (arith, few, n.2); numbers_fit = omega (arith, few, n.2); words = omega (arith, few, n.2) }, omega (arith, few-lines (is_held e) h.load-header.result.lines)),
+    )
+
+returns-2 : tie.Need-returns-2
+returns-2 c =
+    let r = c.before.before.before.before.before in
+    let h = r.before.before.before.before.before.before.before.before.before.before.before.before in
+    let e = h.before in
+    let n = h.load-header.ensures in
+    written-report (is_held e) (is-sound e) _
+    (r.report.ensures _ (read_told (is_held e) _ _ n.0 n.3) (n.2 ∙ sym (read-entries (is_held e).read)))
+
+pub report-spec : {M : Type 1} → statement M
+report-spec =
+    tie.close
+    (tie.spec
+    (λ c. search rules)
+    (λ c. search rules)
+    (λ c. search rules)
+    (λ c. search rules)
+    (λ c κs. search rules)
+    returns
+    load-header-requires
+    (λ c. search rules)
+    (λ c. search rules)
+    (λ c. search rules)
+    (λ c. search rules)
+    (λ c. lines-within c.before.before.before)
+    (λ c. sym (length-take-le _ _ (lines-within c.before.before.before.before)))
+    (λ c. table-within c.before.before.before.before)
+    (λ c. sym (length-take-le _ _ (table-within c.before.before.before.before.before)))
+    (λ c. search rules)
+    (λ c. search rules)
+    (λ c. search rules)
+    (λ c. search rules)
+    report-requires
+    (λ c. search rules)
+    returns-2)

@@ -1,3 +1,5 @@
+#![tactic(auto)]
+
 // Books for the archive (docs/SPEC.md, "Stored book and its list"): stored with their variables first, beside the list of their terms' old
 // numbers, and restored. No area is used.
 //

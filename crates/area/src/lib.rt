@@ -1,3 +1,5 @@
+#![tactic(auto)]
+
 // An area's bytes and the state that they hold: the state loaded, the test whether an area of any bytes is sound, and a state
 // stored.
 //

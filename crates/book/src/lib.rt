@@ -1,3 +1,5 @@
+#![tactic(auto)]
+
 // A book's bytes (docs/SPEC.md, "Bytes"): read into term rows, with the refusals in document 01's order, and term rows written
 // as a book.
 //

@@ -1,3 +1,5 @@
+#![tactic(auto)]
+
 // A step on an area's bytes: the area is tested and loaded, the step is taken on the loaded state, and what it leaves is stored
 // (document 01, "Add a line", "Fix a choice").
 

@@ -1,3 +1,5 @@
+#![tactic(auto)]
+
 // The calls that are offered to others. None has a `requires`: what is wrong is refused by its number (docs/C-API.md).
 
 ghost use Rattle.std.specs.Prelude.{◌≡◌, [], ◌∷◌};

@@ -1,3 +1,5 @@
+#![tactic(auto)]
+
 // The layout of an area (docs/LAYOUT.md): its numbers and limits, where its parts begin, and how its words, its header and the
 // row of an entry are read and written.
 //

@@ -1,3 +1,5 @@
+#![tactic(auto)]
+
 // Numbers in groups of seven bits, lowest group first, in shortest form (specs/Number.antt).
 
 ghost use Rattle.std.specs.Prelude.{◌≡◌, ◌++◌, ◌<◌, length, drop};

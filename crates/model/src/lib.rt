@@ -1,1 +1,3 @@
+#![tactic(auto)]
+
 // Definitions and theorems only: specs/ and proofs/.

@@ -1,3 +1,5 @@
+#![tactic(auto)]
+
 // The calls with the office's limits, on bytes of any kind: each has the arrays of the office's sizes that it works in. Only
 // `opening` and `steps` change an area.
 //

@@ -1,3 +1,5 @@
+#![tactic(auto)]
+
 // An indexed list of pairs of numbers in lent slices: the first place of a pair, and one pair more (specs/Pairs.antt).
 // `lefts` and `rights` hold the pairs by place. Each bucket has a tree of places: `cells` holds a link for each bucket, and behind
 // them two for each place. A link is a place plus 1, or 0 for none (specs/Index.antt).

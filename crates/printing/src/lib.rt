@@ -1,3 +1,5 @@
+#![tactic(auto)]
+
 // What a session prints (docs/SPEC.md, "Sessions"): the line of an opening or a step, and the text of a report kept for the next
 // report.
 //

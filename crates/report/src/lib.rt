@@ -1,3 +1,5 @@
+#![tactic(auto)]
+
 // The report of a sound state (docs/SPEC.md, "Bytes"): the classes of its table numbered afresh, and the bytes of the report, its
 // length first.
 //

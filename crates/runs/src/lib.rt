@@ -1,3 +1,5 @@
+#![tactic(auto)]
+
 // Numbers as bytes, one after the other: their length, and writing them to a slice of bytes (specs/Runs.antt).
 
 ghost use Rattle.std.specs.Prelude.{◌≡◌, ◌+◌, ◌≤◌, length, take, drop};

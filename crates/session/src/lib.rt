@@ -1,3 +1,5 @@
+#![tactic(auto)]
+
 // A session over lent bytes (docs/SPEC.md, "Sessions"): opening it, where it is refused, what is asked for at a position of its input,
 // one step of it, numbers as decimal text, and what is said where it stops.
 //

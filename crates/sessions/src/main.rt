@@ -1,3 +1,5 @@
+#![tactic(auto)]
+
 // The session program (docs/SPEC.md, "Sessions"): it reads a session from standard input, and prints a line for the opening and
 // for each step. The opening is a function of crate session, a step with the text of its line one of crate printing; here they are joined to
 // the input and the output. On standard error it says where the input stops being a session, and what cannot be read or printed.

@@ -1,3 +1,5 @@
+#![tactic(auto)]
+
 // The tests of a loaded state that together are the soundness of an area (document 01, "Areas"), in the order in which they are
 // made. They only read what is tested.
 //

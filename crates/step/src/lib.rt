@@ -1,3 +1,5 @@
+#![tactic(auto)]
+
 // A step on a loaded state: a line added or a choice fixed (document 01, "Add a line", "Fix a choice"), and what it leaves stored
 // in the area.
 //

@@ -1,3 +1,5 @@
+#![tactic(auto)]
+
 // The pair table in slices, each step as its definition says (document 01, "The pair table"). The rows of the entries hold the
 // table; the names of their two sides are indexed beside them.
 //

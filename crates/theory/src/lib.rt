@@ -1,1 +1,3 @@
+#![tactic(auto)]
+
 // Theorems about the definitions of crate `model`: statements in specs/, proofs in proofs/.

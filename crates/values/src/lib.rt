@@ -1,3 +1,5 @@
+#![tactic(auto)]
+
 // The values of the terms of a book with bindings: what each term stands for, whether a variable occurs in a value, and the name
 // of each value, the lowest term that has it.
 //

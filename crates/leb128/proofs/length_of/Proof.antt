@@ -6,14 +6,14 @@ use Rattle.leb128.proofs.Writing.{one_byte_lem, two_bytes_lem, three_long}
 use Rattle.leb128.proofs.length_of.Statement.{statement}
 use Rattle.leb128.proofs.length_of.Tie as tie
 
-returns : tie.Need-returns
+returns : tie.Need-returns-then-n-lt128
 returns c = sym (ap length (one_byte_lem c.before.args.n (omega arith)))
 
-returns-2 : tie.Need-returns-2
+returns-2 : tie.Need-returns-then-n-lt16384
 returns-2 c = sym (ap length (two_bytes_lem c.before.before.args.n (omega arith) (omega arith)))
 
-returns-3 : tie.Need-returns-3
+returns-3 : tie.Need-returns-else-n-lt16384
 returns-3 c = sym (three_long c.before.before.args.n (omega arith))
 
-pub length-of-spec : {M : Type 1} → statement M
-length-of-spec = tie.close (tie.spec returns returns-2 returns-3)
+pub length_of_spec : {M : Type 1} → statement M
+length_of_spec = tie.close (tie.spec returns returns-2 returns-3)

@@ -25,69 +25,69 @@ told bytes at r e = (e, ap numbers e ∙ go (read max_groups max_number (drop at
     go invalid = refl
 
 -- every element of the slice is a byte
-byte : (c : tie.After-shared-slice-known) (i : ℕ) → get_or c.before.args.s.now i 0 < 256
-byte c i = omega (arith, c.shared-slice-known.given i)
+byte : (c : tie.After-shared_slice_known-1) (i : ℕ) → get_or c.before.args.s.now i 0 < 256
+byte c i = omega (arith, c.shared_slice_known-1.given i)
 
-returns : tie.Need-returns
+returns : tie.Need-returns-then-s-at
 returns c =
     let a = c.before.before.args in
     told a.s.now a.at _ (sym (first-cut a.s.now a.at (omega arith)))
 
-shared-slice-read-x : tie.Need-shared-slice-read-x
+shared-slice-read-x : tie.Need-bounds-s-at
 shared-slice-read-x c = search rules
 
-cast-x : tie.Need-overflow-cast-x
-cast-x c = omega (arith, c.shared-slice-known2.given c.before.before.before.args.at)
+cast-x : tie.Need-overflow_cast-x
+cast-x c = omega (arith, c.shared_slice_known-2-1.given c.before.before.before.args.at)
 
-add-second : tie.Need-overflow-add-second
+add-second : tie.Need-overflow_add-second
 add-second c = search rules
 
-returns-2 : tie.Need-returns-2
+returns-2 : tie.Need-returns-then-x-lt128
 returns-2 c =
     let a = c.before.before.before.before.args in
     told a.s.now a.at _ (sym (first-number a.s.now a.at (omega arith) (omega arith)))
 
-returns-3 : tie.Need-returns-3
+returns-3 : tie.Need-returns-then-s-second
 returns-3 c =
     let a = c.before.before.before.before.before.args in
     told a.s.now a.at _ (sym (second_cut a.s.now a.at (omega arith) (omega arith) (omega arith)))
 
-shared-slice-read-y : tie.Need-shared-slice-read-y
+shared-slice-read-y : tie.Need-bounds-s-second
 shared-slice-read-y c = search rules
 
-cast-y : tie.Need-overflow-cast-y
-cast-y c = omega (arith, c.shared-slice-known3.given (c.before.before.before.before.before.before.args.at + 1))
+cast-y : tie.Need-overflow_cast-y
+cast-y c = omega (arith, c.shared_slice_known-3-1.given (c.before.before.before.before.before.before.args.at + 1))
 
-add-third : tie.Need-overflow-add-third
+add-third : tie.Need-overflow_add-third
 add-third c = search rules
 
-returns-4 : tie.Need-returns-4
+returns-4 : tie.Need-returns-then-y-eq0
 returns-4 c =
     let a = c.before.before.before.before.before.before.before.args in
     told a.s.now a.at _ (sym (second_zero a.s.now a.at (omega arith) (omega arith) (omega arith) (omega arith)))
 
-mul-t13 : tie.Need-overflow-mul-t13
+mul-t13 : tie.Need-overflow_mul-result
 mul-t13 c = search rules
 
-add-t14 : tie.Need-overflow-add-t14
+add-t14 : tie.Need-overflow_add-result
 add-t14 c = search rules
 
-returns-5 : tie.Need-returns-5
+returns-5 : tie.Need-returns-then-y-lt128
 returns-5 c =
     let entry = c.before.before.before.before.before.before.before in
     let a = entry.before.args in
     told a.s.now a.at _ (sym (second_number a.s.now a.at (omega arith) (omega arith) (omega arith) (byte entry a.at) (omega arith) (omega arith)))
 
-read-third-requires : tie.Need-read-third-requires
+read-third-requires : tie.Need-read_third-requires
 read-third-requires c κs = search rules
 
-returns-6 : tie.Need-returns-6
+returns-6 : tie.Need-returns
 returns-6 c =
     let entry = c.before.before.before.before.before.before.before.before in
     let a = entry.before.args in
     told a.s.now a.at _
     (rw (to_third a.s.now a.at (omega arith) (omega arith) (omega arith) (byte entry a.at) (omega arith) (byte entry (a.at + 1)))
-    c.read-third.ensures)
+    c.read_third.ensures)
 
 pub read_spec : {M : Type 1} → statement M
 read_spec =

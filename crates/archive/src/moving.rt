@@ -15,7 +15,7 @@ ghost use Rattle.book.specs.parse.Parts.{node_row};
 ghost use Rattle.archive.specs.moving.Moving.{RowMoves, RowsMove, moved_book};
 
 // What moving finds: whether each argument is then lower than its term (rule 5), and how many bytes the numbers take.
-#[derive(Drop)]
+#[derive(Clone, Copy)]
 pub struct Moved {
     pub lower: bool,
     pub bytes: usize,

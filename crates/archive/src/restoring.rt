@@ -13,7 +13,7 @@ ghost use Rattle.archive.specs.storing.Lent.{Lent};
 use layout::limits::Limits;
 
 // What decoding a restored book answers: 0 or the refusal, the number of terms, and how many bytes the book takes.
-#[derive(Drop)]
+#[derive(Clone, Copy)]
 pub struct Restored {
     pub refusal: u32,
     pub terms: u32,

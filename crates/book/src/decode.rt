@@ -11,7 +11,7 @@ ghost use Rattle.book.specs.decode.Rows.{book_rows, decoded_refusal, decoded_boo
 use crate::parse::{Advance, Part};
 
 // What decoding answers: 0 or the refusal, and the number of terms.
-#[derive(Drop)]
+#[derive(Clone, Copy)]
 pub struct Decoding {
     pub refusal: u32,
     pub terms: u32,

@@ -15,14 +15,14 @@ const COUNTS: u32 = layout::limits::MAX_ARITY as u32 + 1;
 const FIRST_NUMBERS: u32 = layout::limits::MAX_SYMBOL as u32 + 2;
 
 // A number and the position after it, or a refusal.
-#[derive(Drop)]
+#[derive(Clone, Copy)]
 pub enum Part {
     Value { value: u32, next: usize },
     Refused(u32),
 }
 
 // The position after a term, or all terms, whose contents went into the rows, or a refusal.
-#[derive(Drop)]
+#[derive(Clone, Copy)]
 pub enum Advance {
     Next(usize),
     Refused(u32),
@@ -30,7 +30,7 @@ pub enum Advance {
 
 // A position in a term: where the next number stands, the refusal (0 while there is none), and what was read before it, the
 // term's first number and its count.
-#[derive(Drop)]
+#[derive(Clone, Copy)]
 pub struct Position {
     pub next: usize,
     pub refusal: u32,

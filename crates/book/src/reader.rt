@@ -12,7 +12,7 @@ ghost use Rattle.book.specs.parse.Parts.{start_at, advance_of, head_read, parse_
 use crate::parse::{Advance, Position};
 
 // A book's bytes, and the position in the term that is read.
-#[derive(Drop)]
+#[derive(Clone, Copy)]
 struct Reader<'a> {
     src: &'a [u8],
     at: Position,

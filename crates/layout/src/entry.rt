@@ -6,7 +6,7 @@ ghost use Rattle.model.specs.Area.{entry_row_words};
 ghost use Rattle.layout.specs.entry.Row.{row_of};
 
 // An entry: its pair of terms, kind (0 hole, 1 common), symbol, argument count, argument entries, and same-as.
-#[derive(Drop)]
+#[derive(Clone, Copy)]
 pub struct Entry {
     pub left: u32,
     pub right: u32,

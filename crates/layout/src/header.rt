@@ -7,7 +7,7 @@ ghost use Rattle.layout.specs.words.Words.{laid};
 ghost use Rattle.layout.specs.header.Row.{words_of};
 
 // The header of an area.
-#[derive(Drop)]
+#[derive(Clone, Copy)]
 pub struct Header {
     pub capacity: u32,
     pub terms: u32,

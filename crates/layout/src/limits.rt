@@ -22,7 +22,7 @@ pub const TERM_WORDS: usize = 2 + MAX_ARITY;
 pub const ENTRY_WORDS: usize = 6 + MAX_ARITY;
 
 // What limits an area: terms of a book, the largest capacity in entries, and lines.
-#[derive(Drop)]
+#[derive(Clone, Copy)]
 pub struct Limits {
     pub terms: usize,
     pub capacity: usize,

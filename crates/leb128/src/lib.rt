@@ -7,7 +7,7 @@ ghost use Rattle.leb128.specs.Number.{max_groups, max_number, write, write_withi
 ghost use Rattle.leb128.specs.Answer.{read_at, placed, numbers, numbers_at};
 
 // What stands at a position: a number and the position after it, bytes that end too early, or no valid number.
-#[derive(Drop)]
+#[derive(Clone, Copy)]
 pub enum Decoded {
     Number { value: u32, next: usize },
     Cut,

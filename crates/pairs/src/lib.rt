@@ -12,7 +12,7 @@ ghost use Rattle.pairs.specs.Index.{hash_of, Room, Indexed, Searched, Pushed};
 pub const BUCKETS: usize = 4096;
 
 // What a search gives: a place, and the cell at which it ended.
-#[derive(Drop)]
+#[derive(Clone, Copy)]
 struct Found {
     place: usize,
     cell: usize,

@@ -11,7 +11,7 @@ use session::steps::Reply;
 
 // What a turn gives: the position at which the session goes on, the size of the text to print, whether it is a report's, which stands
 // in the buffer of reports, and how much of that buffer is kept.
-#[derive(Drop)]
+#[derive(Clone, Copy)]
 pub struct Printout {
     pub next: usize,
     pub size: usize,

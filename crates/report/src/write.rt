@@ -26,7 +26,7 @@ fn number_lines(lines: &[u32], entries: &[u32], numbers: &[u32], count: usize, h
 }
 
 // The numbers of an entry, `count` of them at the front.
-#[derive(Drop)]
+#[derive(Clone, Copy)]
 struct Numbers {
     words: [u32; MOST],
     count: usize,

@@ -6,7 +6,7 @@ ghost use Rattle.session.specs.command.Commands.{command_numbers, asked_numbers,
 use step::answer::Step;
 
 // A command, with the position after it.
-#[derive(Drop)]
+#[derive(Clone, Copy)]
 pub enum Command {
     // the input has ended
     Ended,

@@ -17,14 +17,14 @@ pub const LONGEST: usize = 65536;
 pub const CAPACITY: u32 = 1024;
 
 // What opening a session answers: the refusal that ends it, or the position of the first step.
-#[derive(Drop)]
+#[derive(Clone, Copy)]
 pub enum Begun {
     Refused(u32),
     At(usize),
 }
 
 // What a step answers. The session goes on at `next`; it is over where there is none.
-#[derive(Drop)]
+#[derive(Clone, Copy)]
 pub enum Reply {
     // the input has ended
     Ended,

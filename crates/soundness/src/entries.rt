@@ -15,7 +15,7 @@ use layout::limits::ENTRY_WORDS;
 
 // What the test of same-as finds: whether all are right, and whether no two entries have the same two names, so that none hold the same
 // two terms.
-#[derive(Drop)]
+#[derive(Clone, Copy)]
 struct SameAs {
     right: bool,
     apart: bool,

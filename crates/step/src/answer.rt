@@ -6,7 +6,7 @@ ghost use Rattle.step.specs.declared.answer.StepAnswer.TheVariants.{Refused};
 ghost use Rattle.step.specs.answer.Stepped.{refusal_number};
 
 // A step: what alters the state of an area.
-#[derive(Drop)]
+#[derive(Clone, Copy)]
 pub enum Step {
     // adds the line of a left and a right term
     Add(u32, u32),
@@ -15,7 +15,7 @@ pub enum Step {
 }
 
 // What a step answers.
-#[derive(Drop)]
+#[derive(Clone, Copy)]
 pub enum StepAnswer {
     Refused(u32),
     // the entry of the line
@@ -25,7 +25,7 @@ pub enum StepAnswer {
 }
 
 // A step on a loaded state: its answer, and the numbers of entries and of lines after it.
-#[derive(Drop)]
+#[derive(Clone, Copy)]
 pub struct Stepped {
     pub answer: StepAnswer,
     pub entries: u32,

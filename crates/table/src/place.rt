@@ -9,7 +9,7 @@ use layout::entry::Entry;
 use layout::limits::MAX_ARITY;
 
 // The entry of a pair, the number of entries with it, and whether it would need more of them than the capacity.
-#[derive(Drop)]
+#[derive(Clone, Copy)]
 pub struct Placed {
     pub entry: u32,
     pub count: usize,

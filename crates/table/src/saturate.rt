@@ -5,7 +5,7 @@ ghost use Rattle.table.specs.place.Stands.{GivenTable, Whatever};
 ghost use Rattle.table.specs.saturate.Walking.{ToWalk, IsWalked};
 
 // How many of the old entries turned, the number of entries after the walk, and whether it would need more than the capacity.
-#[derive(Drop)]
+#[derive(Clone, Copy)]
 pub struct Walked {
     pub turned: usize,
     pub count: usize,

@@ -12,7 +12,7 @@ use layout::limits::{MAX_ARITY, TERM_WORDS};
 
 // The entries of the argument pairs of two terms, the number of entries with them, and whether they would need more than the
 // capacity.
-#[derive(Drop)]
+#[derive(Clone, Copy)]
 struct Arguments {
     entries: [u32; MAX_ARITY],
     count: usize,
@@ -20,7 +20,7 @@ struct Arguments {
 }
 
 // Whether an entry turned, and the same of its visit.
-#[derive(Drop)]
+#[derive(Clone, Copy)]
 pub struct Visited {
     pub turned: bool,
     pub count: usize,

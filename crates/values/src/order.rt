@@ -38,7 +38,7 @@ fn part(rows: &[u32], bindings: &[u32], n: u32, t: u32, i: usize) -> u32
 }
 
 // Whether a walk met no term in progress, and how many terms are finished behind it.
-#[derive(Drop)]
+#[derive(Clone, Copy)]
 pub struct Walk {
     pub ok: bool,
     pub done: u32,

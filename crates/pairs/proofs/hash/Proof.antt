@@ -9,5 +9,5 @@ returns : tie.Need-returns
 unfolding hash_of
 returns c = refl
 
-pub hash-spec : {M : Type 1} → statement M
-hash-spec = tie.close (tie.spec (λ c. search rules) (λ c. search rules) (λ c. search rules) (λ c. search rules) (λ c. search rules) returns)
+pub hash_spec : {M : Type 1} → statement M
+hash_spec = tie.close (tie.spec (λ c. search rules) (λ c. search rules) (λ c. search rules) (λ c. search rules) (λ c. search rules) returns)

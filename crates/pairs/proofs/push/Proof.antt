@@ -8,37 +8,37 @@ use Rattle.pairs.proofs.push.Statement.{statement}
 use Rattle.pairs.proofs.push.Tie as tie
 
 -- the function's entry, from the search
-abbrev start : tie.After-search → tie.Start
+abbrev start : tie.After-search-found → tie.Start
 start c = c.before.before.before.before.before.before.before
 
 -- the cells of the new place are there
-slice-write-cells : tie.Need-slice-write-cells
+slice-write-cells : tie.Need-bounds-cells-own
 slice-write-cells c = omega (arith, (start c).requires.1.cells_fit)
 
-slice-write-cells-2 : tie.Need-slice-write-cells-2
+slice-write-cells-2 : tie.Need-bounds-cells-own-2
 slice-write-cells-2 c = rw length-set (omega (arith, (start c).requires.1.cells_fit))
 
 -- so is the one at which the search ended
-mul-cells-3 : tie.Need-overflow-mul-cells-3
+mul-cells-3 : tie.Need-offset_bounds-cells-cell
 mul-cells-3 c =
-    let s = c.before.before in
+    let s = c in
     let ix = (start s).requires.0 in
-    omega (arith, (s.search.ensures.ends c.if1.true).low, ix.room.lefts_fit, ix.room.words)
+    omega (arith, (s.search-found.ensures.ends c.if-found-count.true).low, ix.room.lefts_fit, ix.room.words)
 
-slice-write-cells-3 : tie.Need-slice-write-cells-3
+slice-write-cells-3 : tie.Need-bounds-cells-cell
 slice-write-cells-3 c =
-    let s = c.before.before in
-    end_fits (start s).requires.0 (start s).requires.1 s.search.ensures c.if1.true
+    let s = c in
+    end_fits (start s).requires.0 (start s).requires.1 s.search-found.ensures c.if-found-count.true
 
-returns : tie.Need-returns
+returns : tie.Need-returns-then-found-count
 returns c =
-    let s = c.before.before in
-    pushed_new (start s).requires.0 (start s).requires.1 s.search.ensures c.if1.true
+    let s = c in
+    pushed_new (start s).requires.0 (start s).requires.1 s.search-found.ensures c.if-found-count.true
 
-returns-2 : tie.Need-returns-2
+returns-2 : tie.Need-returns-else-found-count
 returns-2 c =
-    let s = c.before.before in
-    pushed_there (start s).requires.0 (start s).requires.1 s.search.ensures c.if1.false
+    let s = c in
+    pushed_there (start s).requires.0 (start s).requires.1 s.search-found.ensures c.if-found-count.false
 
 pub push_spec : {M : Type 1} → statement M
 push_spec =

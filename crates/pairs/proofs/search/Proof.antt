@@ -10,44 +10,44 @@ use Rattle.pairs.proofs.Descent.{Sought, sought_head, sought_none, sought_at, so
 use Rattle.pairs.proofs.search.Statement.{statement}
 use Rattle.pairs.proofs.search.Tie as tie
 
-abbrev invariant-loop : tie.invariant-loop
+abbrev invariant-loop : tie.invariant-loop-link
 invariant-loop lefts rights cells count a b mixed way₀ cell₀ link₀ way cell link = Sought lefts rights cells count a b cell way link
 
-abbrev decreases-loop : tie.decreases-loop
+abbrev decreases-loop : tie.decreases-loop-link
 decreases-loop lefts rights cells count a b mixed way₀ cell₀ link₀ way cell link = cells_of count - cell
 
 -- the function's entry, from the loop's head
-abbrev start : tie.At-loop invariant-loop decreases-loop → tie.Start invariant-loop decreases-loop
+abbrev start : tie.At-loop-link invariant-loop decreases-loop → tie.Start invariant-loop decreases-loop
 start c = c.before.before.before.before.before.before
 
-loop-holds : tie.Need-loop-init invariant-loop decreases-loop
-loop-holds c = sought_head c.before.before.before.before.before.requires _ c.before.hash.ensures
+loop-holds : tie.Need-loop-link-init invariant-loop decreases-loop
+loop-holds c = sought_head c.requires _ c.hash-mixed.ensures
 
-loop-less : tie.Need-loop-smaller invariant-loop decreases-loop
+loop-less : tie.Need-loop-link-smaller invariant-loop decreases-loop
 loop-less c =
-    let l = c.before.before.before.before in
-    let later = (sought_at (start l).requires l.loop.invariant c.before.before.before.if1.false).1 in
-    omega (arith, later, l.loop.invariant.low)
+    let l = c in
+    let later = (sought_at (start l).requires l.loop-link.invariant c.if-link-eq0.false).1 in
+    omega (arith, later, l.loop-link.invariant.low)
 
-loop-again : tie.Need-loop-preserved invariant-loop decreases-loop
+loop-again : tie.Need-loop-link-preserved invariant-loop decreases-loop
 loop-again c =
-    let l = c.before.before.before.before in
-    sought_next (start l).requires l.loop.invariant c.before.before.before.if1.false
-    (⊎_elim (λ w h. eqb-false _ _ w.2.left h.right) (λ w h. w.left h.left) c.before.if2.branch)
+    let l = c in
+    sought_next (start l).requires l.loop-link.invariant c.if-link-eq0.false
+    (⊎_elim (λ w h. eqb-false _ _ w.2.left h.right) (λ w h. w.left h.left) c.else-lefts-at.branch)
 
-returns : tie.Need-returns invariant-loop decreases-loop
+returns : tie.Need-returns-then-link-eq0 invariant-loop decreases-loop
 returns c =
-    let l = c.before in
-    sought_none (start l).requires l.loop.invariant c.if1.true
+    let l = c in
+    sought_none (start l).requires l.loop-link.invariant c.if-link-eq0.true
 
-returns-2 : tie.Need-returns-2 invariant-loop decreases-loop
+returns-2 : tie.Need-returns-then-rights-at invariant-loop decreases-loop
 returns-2 c =
-    let l = c.before.before.before.before.before in
-    sought_found (start l).requires l.loop.invariant c.before.before.before.before.if1.false
-    (record { left = c.before.before.if2.true; right = eqb-true _ _ c.if3.true })
+    let l = c in
+    sought_found (start l).requires l.loop-link.invariant c.if-link-eq0.false
+    (record { left = c.if-lefts-at.true; right = eqb-true _ _ c.if-rights-at.true-raw })
 
-pub search-spec : {M : Type 1} → statement M
-search-spec =
+pub search_spec : {M : Type 1} → statement M
+search_spec =
     tie.close
     (tie.spec
     invariant-loop

@@ -7,8 +7,8 @@ use Rattle.layout.proofs.entry.entry_at.Tie as tie
 returns : tie.Need-returns
 returns c = rw add-sub_cancel_left at c.entry_of.ensures
 
-pub entry-at-spec : {M : Type 1} → statement M
-entry-at-spec =
+pub entry_at_spec : {M : Type 1} → statement M
+entry_at_spec =
     tie.close
     (tie.spec
     (λ c. search rules)

@@ -11,10 +11,10 @@ returns : tie.Need-returns
 unfolding row_of from
 returns c =
     every _ entry_row_words
-    c.before.before.before.before.before.before.before.before.before.before.before.before.before.before.requires
+    c.requires
 
-pub entry-of-spec : {M : Type 1} → statement M
-entry-of-spec =
+pub entry_of_spec : {M : Type 1} → statement M
+entry_of_spec =
     tie.close
     (tie.spec
     (λ c. search rules)

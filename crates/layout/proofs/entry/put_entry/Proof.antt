@@ -10,13 +10,13 @@ use Rattle.layout.proofs.entry.put_entry.Tie as tie
 
 returns : tie.Need-returns
 returns c =
-    let s = c.before.before.before.before.before.before.before in
-    let row = c.before.before.before.before.before.row_of in
+    let s = c in
+    let row = c.row_of-row in
     let long : length row.result ≡ entry_row_words = search rules in
-    c.before.before.put-words.ensures ∙ ap₂ (paste s.args.entries.now (entry_row_words * s.args.i)) row.ensures long
+    c.put_words.ensures ∙ ap₂ (paste s.args.entries.now (entry_row_words * s.args.i)) row.ensures long
 
-pub put-entry-spec : {M : Type 1} → statement M
-put-entry-spec =
+pub put_entry_spec : {M : Type 1} → statement M
+put_entry_spec =
     tie.close
     (tie.spec
     (λ c κs. search rules)

@@ -12,12 +12,12 @@ use Rattle.layout.proofs.entry.row_of.Tie as tie
 returns : tie.Need-returns
 unfolding row_of from
 returns c =
-    let arguments = c.before.args.e.arguments in
+    let arguments = c.args.e.arguments in
     let long : length arguments ≡ max_arity = search rules in
     rw (← every arguments max_arity long)
 
-pub row-of-spec : {M : Type 1} → statement M
-row-of-spec =
+pub row_of_spec : {M : Type 1} → statement M
+row_of_spec =
     tie.close
     (tie.spec
     (λ c. search rules)

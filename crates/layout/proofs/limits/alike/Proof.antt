@@ -6,19 +6,19 @@ use Rattle.layout.proofs.limits.Symbols.{alike-variable, alike-words}
 use Rattle.layout.proofs.limits.alike.Statement.{statement}
 use Rattle.layout.proofs.limits.alike.Tie as tie
 
-returns : tie.Need-returns
-returns c = alike-variable _ _ _ c.if1.true
+returns : tie.Need-returns-then-symbol-eq0
+returns c = alike-variable _ _ _ c.if-symbol-eq0.true
 
-returns-2 : tie.Need-returns-2
+returns-2 : tie.Need-returns-then-symbol-rows
 returns-2 c =
-    let s = c.before.before in
-    sym (alike-words _ _ _ s.if1.false s.before.before.requires.0 s.before.before.requires.1 ∙ rw (ne_eqb _ _ c.if2.true))
+    let s = c in
+    sym (alike-words _ _ _ s.if-symbol-eq0.false s.requires.0 s.requires.1 ∙ rw (ne_eqb _ _ c.if-symbol-rows.true))
 
-returns-3 : tie.Need-returns-3
+returns-3 : tie.Need-returns
 returns-3 c =
-    let t = c.before.before in
-    let s = t.before.before in
-    sym (alike-words _ _ _ s.if1.false s.before.before.requires.0 s.before.before.requires.1 ∙ rw (eq-eqb _ _ t.if2.false))
+    let t = c in
+    let s = t in
+    sym (alike-words _ _ _ s.if-symbol-eq0.false s.requires.0 s.requires.1 ∙ rw (eq-eqb _ _ t.if-symbol-rows.false))
 
 pub alike_spec : {M : Type 1} → statement M
 alike_spec =

@@ -16,34 +16,30 @@ invariant-loop lefts rights cells count a b mixed way₀ cell₀ link₀ way cel
 abbrev decreases-loop : tie.decreases-loop-link
 decreases-loop lefts rights cells count a b mixed way₀ cell₀ link₀ way cell link = cells_of count - cell
 
--- the function's entry, from the loop's head
-abbrev start : tie.At-loop-link invariant-loop decreases-loop → tie.Start invariant-loop decreases-loop
-start c = c.before.before.before.before.before.before
-
 loop-holds : tie.Need-loop-link-init invariant-loop decreases-loop
 loop-holds c = sought_head c.requires _ c.hash-mixed.ensures
 
 loop-less : tie.Need-loop-link-smaller invariant-loop decreases-loop
 loop-less c =
     let l = c in
-    let later = (sought_at (start l).requires l.loop-link.invariant c.if-link-eq0.false).1 in
+    let later = (sought_at l.requires l.loop-link.invariant c.if-link-eq0.false).1 in
     omega (arith, later, l.loop-link.invariant.low)
 
 loop-again : tie.Need-loop-link-preserved invariant-loop decreases-loop
 loop-again c =
     let l = c in
-    sought_next (start l).requires l.loop-link.invariant c.if-link-eq0.false
-    (⊎_elim (λ w h. eqb-false _ _ w.2.left h.right) (λ w h. w.left h.left) c.else-lefts-at.branch)
+    sought_next l.requires l.loop-link.invariant c.if-link-eq0.false
+    (⊎_elim (λ w h. w.if-rights-at.false h.right) (λ w h. w.if-lefts-at.false h.left) c.else-lefts-at.branch-raw)
 
 returns : tie.Need-returns-then-link-eq0 invariant-loop decreases-loop
 returns c =
     let l = c in
-    sought_none (start l).requires l.loop-link.invariant c.if-link-eq0.true
+    sought_none l.requires l.loop-link.invariant c.if-link-eq0.true
 
 returns-2 : tie.Need-returns-then-rights-at invariant-loop decreases-loop
 returns-2 c =
     let l = c in
-    sought_found (start l).requires l.loop-link.invariant c.if-link-eq0.false
+    sought_found l.requires l.loop-link.invariant c.if-link-eq0.false
     (record { left = c.if-lefts-at.true; right = eqb-true _ _ c.if-rights-at.true-raw })
 
 pub search_spec : {M : Type 1} → statement M

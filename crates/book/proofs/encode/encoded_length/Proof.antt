@@ -14,56 +14,56 @@ use Rattle.book.proofs.encode.Encoding.{length-book}
 use Rattle.book.proofs.encode.encoded_length.Statement.{statement}
 use Rattle.book.proofs.encode.encoded_length.Tie as tie
 
-abbrev invariant-loop : tie.invariant-loop
+abbrev invariant-loop : tie.invariant-loop-t
 invariant-loop rows terms t₀ sum₀ t sum =
     (t ≤ terms) × (sum ≡ sum₀ + length (terms_bytes rows t)) × (length (terms_bytes rows t) ≤ max_groups * term_words * t)
 
-abbrev decreases-loop : tie.decreases-loop
+abbrev decreases-loop : tie.decreases-loop-t
 decreases-loop rows terms t₀ sum₀ t sum = terms - t
 
-cast-length-of : tie.Need-overflow-cast-length-of invariant-loop decreases-loop
-cast-length-of c = omega (arith, encodable-terms _ _ c.before.requires)
+cast-length-of : tie.Need-overflow_cast-terms invariant-loop decreases-loop
+cast-length-of c = omega (arith, encodable-terms _ _ c.requires)
 
-length-of-requires : tie.Need-length-of-requires invariant-loop decreases-loop
+length-of-requires : tie.Need-length_of-sum-requires invariant-loop decreases-loop
 length-of-requires c κs = search rules
 
-loop-holds : tie.Need-loop-init invariant-loop decreases-loop
+loop-holds : tie.Need-loop-t-init invariant-loop decreases-loop
 loop-holds c =
-    let none = ap length (terms-none c.before.before.args.rows.now) in
+    let none = ap length (terms-none c.args.rows.now) in
     omega arith
 
-term-length-requires : tie.Need-term-length-requires invariant-loop decreases-loop
+term-length-requires : tie.Need-term_length-sum-requires invariant-loop decreases-loop
 term-length-requires c κs =
-    let start = c.before.before.before.before in
-    encodable-row _ _ start.requires c.before.loop.t (omega arith)
+    let start = c in
+    encodable-row _ _ start.requires c.loop-t.t (omega arith)
 
-add-sum : tie.Need-overflow-add-sum invariant-loop decreases-loop
+add-sum : tie.Need-overflow_add-sum invariant-loop decreases-loop
 add-sum c =
-    let start = c.before.before.before.before.before in
+    let start = c in
     let few = encodable-terms _ _ start.requires in
     omega (arith, length-write start.args.terms)
 
-add-t : tie.Need-overflow-add-t invariant-loop decreases-loop
+add-t : tie.Need-overflow_add-t invariant-loop decreases-loop
 add-t c = omega arith
 
-loop-less : tie.Need-loop-smaller invariant-loop decreases-loop
+loop-less : tie.Need-loop-t-smaller invariant-loop decreases-loop
 loop-less c = omega arith
 
-loop-again : tie.Need-loop-preserved invariant-loop decreases-loop
+loop-again : tie.Need-loop-t-preserved invariant-loop decreases-loop
 loop-again c =
-    let start = c.before.before.before.before.before in
-    let more = length-terms-more start.args.rows.now c.before.before.loop.t in
+    let start = c in
+    let more = length-terms-more start.args.rows.now c.loop-t.t in
     omega arith
 
 returns : tie.Need-returns invariant-loop decreases-loop
 returns c =
-    let start = c.before.before.before.before in
-    let done : c.before.loop.t ≡ start.args.terms = omega arith in
+    let start = c in
+    let done : c.loop-t.t ≡ start.args.terms = omega arith in
     let all = ap (λ (t : ℕ). length (terms_bytes start.args.rows.now t)) done in
     rw (length-book start.args.rows.now start.args.terms) (omega arith)
 
-pub encoded-length-spec : {M : Type 1} → statement M
-encoded-length-spec =
+pub encoded_length_spec : {M : Type 1} → statement M
+encoded_length_spec =
     tie.close
     (tie.spec
     invariant-loop

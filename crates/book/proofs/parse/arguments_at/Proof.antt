@@ -9,44 +9,44 @@ use Rattle.book.proofs.decode.Term.{arguments_kept, arguments-var, arguments-rea
 use Rattle.book.proofs.parse.arguments_at.Statement.{statement}
 use Rattle.book.proofs.parse.arguments_at.Tie as tie
 
-returns : tie.Need-returns
-returns c = arguments_kept _ _ _ _ _ c.if1.true
+returns : tie.Need-returns-then-at-ne0
+returns c = arguments_kept _ _ _ _ _ c.if-at-ne0.true
 
-returns-2 : tie.Need-returns-2
-returns-2 c = arguments-var _ _ _ _ _ c.before.before.if1.false c.if2.true c.before.before.before.before.before.before.requires.0 refl
+returns-2 : tie.Need-returns-then-at-eq0
+returns-2 c = arguments-var _ _ _ _ _ c.if-at-ne0.false c.if-at-eq0.true c.requires.0 refl
 
-mul-place : tie.Need-overflow-mul-place
+mul-place : tie.Need-overflow_mul-place
 mul-place c = search rules
 
-mul-rows : tie.Need-overflow-mul-rows
+mul-rows : tie.Need-offset_bounds-rows-place
 mul-rows c = search rules
 
-slice-write-rows : tie.Need-slice-write-rows
+slice-write-rows : tie.Need-bounds-rows-place
 slice-write-rows c = search rules
 
-add-rows : tie.Need-overflow-add-rows
+add-rows : tie.Need-overflow_add-rows
 add-rows c = search rules
 
-mul-rows-2 : tie.Need-overflow-mul-rows-2
+mul-rows-2 : tie.Need-offset_bounds-rows-place-2
 mul-rows-2 c = search rules
 
-slice-write-rows-2 : tie.Need-slice-write-rows-2
+slice-write-rows-2 : tie.Need-bounds-rows-place-2
 slice-write-rows-2 c = simp length-set (omega arith)
 
-read-arguments-requires : tie.Need-read-arguments-requires
+read-arguments-requires : tie.Need-read_arguments-requires
 read-arguments-requires c κs = search rules
 
-same_length : tie.Need-same-length
-same_length c = c.before.before.read-arguments.auto.1.1.1.0 ∙ simp length-set
+same_length : tie.Need-shape_of-rows
+same_length c = c.read_arguments.auto.rows ∙ simp length-set
 
-returns-3 : tie.Need-returns-3
+returns-3 : tie.Need-returns
 returns-3 c =
-    let read = c.before.before in
-    let other = read.before.before in
-    arguments-read _ _ _ _ _ other.before.before.if1.false other.if2.false (advance_of read.read-arguments.result) read.read-arguments.ensures
+    let read = c in
+    let other = read in
+    arguments-read _ _ _ _ _ other.if-at-ne0.false other.if-at-eq0.false (advance_of read.read_arguments.result) read.read_arguments.ensures
 
-pub arguments-at-spec : {M : Type 1} → statement M
-arguments-at-spec =
+pub arguments_at_spec : {M : Type 1} → statement M
+arguments_at_spec =
     tie.close
     (tie.spec
     returns

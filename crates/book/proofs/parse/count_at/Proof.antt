@@ -6,27 +6,27 @@ use Rattle.book.proofs.decode.Term.{count-refused, count-var, count_held, count_
 use Rattle.book.proofs.parse.count_at.Statement.{statement}
 use Rattle.book.proofs.parse.count_at.Tie as tie
 
-returns : tie.Need-returns
-returns c = rw c.refused.ensures (count-refused _ _ c.before.if1.true)
+returns : tie.Need-returns-then-at-ne0
+returns c = rw c.refused.ensures (count-refused _ _ c.if-at-ne0.true)
 
-returns-2 : tie.Need-returns-2
-returns-2 c = count-var _ _ c.before.before.if1.false c.if2.true c.before.before.before.before.before.requires
+returns-2 : tie.Need-returns-then-at-eq0
+returns-2 c = count-var _ _ c.if-at-ne0.false c.if-at-eq0.true c.requires
 
-returns-3 : tie.Need-returns-3
+returns-3 : tie.Need-returns-in-Value
 returns-3 c =
-    let known = c.before in
-    let other = known.before.before.before in
-    count_held _ _ other.before.before.if1.false other.if2.false _ _ (part_says _ _ _ _ known.before.before.read_below.ensures known.value.given.1)
+    let known = c in
+    let other = known in
+    count_held _ _ other.if-at-ne0.false other.if-at-eq0.false _ _ (part_says _ _ _ _ known.read_below.ensures known.in-Value.is)
 
-returns-4 : tie.Need-returns-4
+returns-4 : tie.Need-returns-in-Refused
 returns-4 c =
-    let known = c.before.before in
-    let other = known.before.before.before in
-    rw c.refused2.ensures
-    (count_cut _ _ other.before.before.if1.false other.if2.false _ (part_says _ _ _ _ known.before.before.read_below.ensures known.n.given.1))
+    let known = c in
+    let other = known in
+    rw c.refused-in-Refused.ensures
+    (count_cut _ _ other.if-at-ne0.false other.if-at-eq0.false _ (part_says _ _ _ _ known.read_below.ensures known.in-Refused.is))
 
-pub count-at-spec : {M : Type 1} → statement M
-count-at-spec =
+pub count_at_spec : {M : Type 1} → statement M
+count_at_spec =
     tie.close
     (tie.spec
     (λ c κs. search rules)

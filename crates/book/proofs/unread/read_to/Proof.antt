@@ -13,52 +13,52 @@ use Rattle.book.proofs.unread.read_to.Statement.{statement}
 use Rattle.book.proofs.unread.read_to.Tie as tie
 
 -- the number of terms that was read, and its limit
-count-read : (c : tie.After-value) →
-    let a = c.before.before.before.before.before.before.args in
-    Says a.bytes.now 0 (a.lim.terms + 1) 4 (Value c.value.given.0.0 c.value.given.0.1.0)
-count-read c = part_says _ _ _ _ c.before.before.read_below.ensures c.value.given.1
+count-read : (c : tie.In-Value-2) →
+    let a = c.args in
+    Says a.bytes.now 0 (a.lim.terms + 1) 4 (Value c.in-Value.value c.in-Value.next)
+count-read c = part_says _ _ _ _ c.read_below.ensures c.in-Value.is
 
-count_small : (c : tie.After-value) → c.value.given.0.0 ≤ c.before.before.before.before.before.before.args.lim.terms
+count_small : (c : tie.In-Value-2) → c.in-Value.value ≤ c.args.lim.terms
 count_small c = omega (arith, below-small _ 4 _ _ _ (count-read c).0)
 
 -- the rows have as many words as the terms of the limit take
-long : (c : tie.After-value) → let a = c.before.before.before.before.before.before.args in length a.rows.now ≡ term_words * a.lim.terms
-long c = zeros-length _ c.before.before.before.before.before.before.requires.1
+long : (c : tie.In-Value-2) → let a = c.args in length a.rows.now ≡ term_words * a.lim.terms
+long c = zeros-length _ c.requires.1
 
-cast-read-below : tie.Need-overflow-cast-read-below
+cast-read-below : tie.Need-overflow_cast-lim
 cast-read-below c = search rules
 
-add-read-below : tie.Need-overflow-add-read-below
+add-read-below : tie.Need-overflow_add-lim
 add-read-below c = search rules
 
-read-below-requires : tie.Need-read-below-requires
+read-below-requires : tie.Need-read_below-requires
 read-below-requires c κs = search rules
 
-enum-known-n : tie.Need-enum-known-n
+enum-known-n : tie.Need-enum_known-n
 enum-known-n c = search rules
 
-enum-known-value : tie.Need-enum-known-value
+enum-known-value : tie.Need-enum_known-value
 enum-known-value c = search rules
 
-terms-read-to-requires : tie.Need-terms-read-to-requires
+terms-read-to-requires : tie.Need-terms_read_to-requires
 terms-read-to-requires c κs =
-    let known = c.before.before in
-    ((count-read known).1, omega (arith, count_small known, long known), rw (long known) known.before.before.before.before.before.before.requires.1)
+    let known = c in
+    ((count-read known.before.before).1, omega (arith, count_small known.before.before, long known.before.before), rw (long known.before.before) known.requires.1)
 
-returns : tie.Need-returns
-returns c = read_none _ _ _ (part_says _ _ _ _ c.before.before.before.read_below.ensures c.before.n.given.1)
+returns : tie.Need-returns-in-Refused
+returns c = read_none _ _ _ (part_says _ _ _ _ c.read_below.ensures c.in-Refused.is)
 
-same_length : tie.Need-same-length
+same_length : tie.Need-shape_of-rows
 same_length c = search rules
 
-returns-2 : tie.Need-returns-2
+returns-2 : tie.Need-returns-in-Value
 returns-2 c =
-    let read = c.before.before in
-    let known = read.before.before.before in
-    read_up_to _ _ _ _ (count-read known).0 _ read.terms-read-to.ensures.0 read.terms-read-to.ensures.1
+    let read = c in
+    let known = read in
+    read_up_to _ _ _ _ (count-read known.before.before.before.before.before).0 _ read.terms_read_to.ensures.0 read.terms_read_to.ensures.1
 
-pub read-to-spec : {M : Type 1} → statement M
-read-to-spec =
+pub read_to_spec : {M : Type 1} → statement M
+read_to_spec =
     tie.close
     (tie.spec
     cast-read-below add-read-below read-below-requires

@@ -9,59 +9,59 @@ use Rattle.book.proofs.decode.Book.{Read, read_none, read_more, unread_refused, 
 use Rattle.book.proofs.unread.terms_read_to.Statement.{statement}
 use Rattle.book.proofs.unread.terms_read_to.Tie as tie
 
-abbrev invariant-loop : tie.invariant-loop
+abbrev invariant-loop : tie.invariant-loop-t
 invariant-loop bytes at count rows₀ next₀ t₀ rows next t =
     (term_words * count ≤ length rows₀) × (length rows ≡ length rows₀) × Read bytes at count (length rows₀) rows next t
 
-abbrev decreases-loop : tie.decreases-loop
+abbrev decreases-loop : tie.decreases-loop-t
 decreases-loop bytes at count rows₀ next₀ t₀ rows next t = count - t
 
-loop-holds : tie.Need-loop-init invariant-loop decreases-loop
-loop-holds c = (c.before.before.requires.1, refl, read_none _ _ _ _ _ c.before.before.requires.0 c.before.before.requires.2)
+loop-holds : tie.Need-loop-t-init invariant-loop decreases-loop
+loop-holds c = (c.requires.1, refl, read_none _ _ _ _ _ c.requires.0 c.requires.2)
 
-read-term-requires : tie.Need-read-term-requires invariant-loop decreases-loop
+read-term-requires : tie.Need-read_term-requires invariant-loop decreases-loop
 read-term-requires c κs = search rules
 
-enum-known-after : tie.Need-enum-known-after invariant-loop decreases-loop
+enum-known-after : tie.Need-enum_known-after invariant-loop decreases-loop
 enum-known-after c = search rules
 
-enum-known-n : tie.Need-enum-known-n invariant-loop decreases-loop
+enum-known-n : tie.Need-enum_known-n invariant-loop decreases-loop
 enum-known-n c = search rules
 
-same_length : tie.Need-same-length invariant-loop decreases-loop
+same_length : tie.Need-shape_of-rows-in-Refused invariant-loop decreases-loop
 same_length c = search rules
 
-returns : tie.Need-returns invariant-loop decreases-loop
+returns : tie.Need-returns-in-Refused invariant-loop decreases-loop
 returns c =
-    let read = c.before.before.before.before.before in
-    let head = read.before.before.before in
-    unread_refused _ _ _ _ _ _ _ head.loop.invariant.2 read.before.before.loop-test.true _ read.read-term.result _
-    read.read-term.ensures c.before.n.given.1
+    let read = c in
+    let head = read in
+    unread_refused _ _ _ _ _ _ _ head.loop-t.invariant.2 read.loop-t-test.true _ read.read_term.result _
+    read.read_term.ensures c.in-Refused.is
 
-add-t : tie.Need-overflow-add-t invariant-loop decreases-loop
+add-t : tie.Need-overflow_add-t invariant-loop decreases-loop
 add-t c = search rules
 
-loop-less : tie.Need-loop-smaller invariant-loop decreases-loop
+loop-less : tie.Need-loop-t-smaller invariant-loop decreases-loop
 loop-less c = search rules
 
-loop-again : tie.Need-loop-preserved invariant-loop decreases-loop
+loop-again : tie.Need-loop-t-preserved invariant-loop decreases-loop
 loop-again c =
-    let read = c.before.before.before.before.before in
-    let head = read.before.before.before in (
-      head.loop.invariant.0,
+    let read = c in
+    let head = read in (
+      head.loop-t.invariant.0,
       search rules,
-      read_more _ _ _ _ _ _ _ head.loop.invariant.2 read.before.before.loop-test.true _ read.read-term.result _
-          head.loop.invariant.0 read.read-term.ensures c.before.after.given.1,
+      read_more _ _ _ _ _ _ _ head.loop-t.invariant.2 read.loop-t-test.true _ read.read_term.result _
+          head.loop-t.invariant.0 read.read_term.ensures c.in-Next.is,
     )
 
-same-length-2 : tie.Need-same-length-2 invariant-loop decreases-loop
+same-length-2 : tie.Need-shape_of-rows invariant-loop decreases-loop
 same-length-2 c = search rules
 
-returns-2 : tie.Need-returns-2 invariant-loop decreases-loop
-returns-2 c = unread_all _ _ _ _ _ _ _ c.before.loop.invariant.2 c.loop-test.false
+returns-2 : tie.Need-returns invariant-loop decreases-loop
+returns-2 c = unread_all _ _ _ _ _ _ _ c.loop-t.invariant.2 c.loop-t-test.false
 
-pub terms-read-to-spec : {M : Type 1} → statement M
-terms-read-to-spec =
+pub terms_read_to_spec : {M : Type 1} → statement M
+terms_read_to_spec =
     tie.close
     (tie.spec
     invariant-loop

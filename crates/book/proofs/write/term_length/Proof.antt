@@ -10,23 +10,23 @@ use borrow.Author.Rules.{rules}
 use Rattle.book.proofs.write.term_length.Statement.{statement}
 use Rattle.book.proofs.write.term_length.Tie as tie
 
-numbers-of-requires : tie.Need-numbers-of-requires
+numbers-of-requires : tie.Need-numbers_of-count-requires
 numbers-of-requires c κs = search rules
 
-mul-run-length : tie.Need-overflow-mul-run-length
+mul-run-length : tie.Need-overflow_mul-t
 mul-run-length c = search rules
 
-run-length-requires : tie.Need-run-length-requires
+run-length-requires : tie.Need-run_length-requires
 run-length-requires c κs = search rules
 
 returns : tie.Need-returns
 returns c =
-    let start = c.before.before.before in
-    let numbers = c.before.Numbers-of in
+    let start = c in
+    let numbers = c.numbers_of-count in
     let same = term-run _ _ start.requires numbers.result numbers.ensures.1 in
     let bound = run-bound start.args.rows.now (term_words * start.args.t) numbers.result in
     (omega arith, c.run_length.ensures ∙ ap length (sym same))
 
-pub term-length-spec : {M : Type 1} → statement M
-term-length-spec =
+pub term_length_spec : {M : Type 1} → statement M
+term_length_spec =
     tie.close (tie.spec numbers-of-requires mul-run-length run-length-requires returns)

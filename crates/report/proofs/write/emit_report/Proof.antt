@@ -6,33 +6,33 @@ use Rattle.report.proofs.write.Bytes.{report-few}
 use Rattle.report.proofs.write.emit_report.Statement.{statement}
 use Rattle.report.proofs.write.emit_report.Tie as tie
 
-returns : tie.Need-returns
-returns c = λ s shown e. emit_short _ _ _ (rw (c.before.report-length.ensures s shown e) at c.if1.true)
+returns : tie.Need-returns-then-out-report_length
+returns c = λ s shown e. emit_short _ _ _ (rw (c.report_length.ensures s shown e) at c.if-out-report_length.true)
 
-write-report-requires : tie.Need-write-report-requires
+write-report-requires : tie.Need-write_report-count-requires
 write-report-requires c κs =
-    let room = c.before in
-    let given = room.before.before.before.before.before.before.before.before.requires in
-    let size = room.before.report-length.ensures given.state given.holds.0 given.holds.1 in
-    record { state = given.state; holds = (given.holds.0, given.holds.1, rw size at room.if1.false) }
+    let room = c in
+    let given = room.requires in
+    let size = room.report_length.ensures given.state given.holds.0 given.holds.1 in
+    record { state = given.state; holds = (given.holds.0, given.holds.1, rw size at room.if-out-report_length.false) }
 
-cast-written : tie.Need-overflow-cast-written
+cast-written : tie.Need-overflow_cast-written
 cast-written c =
-    let given = c.before.before.before.before.before.before.before.before.before.before.before.before.requires in
+    let given = c.requires in
     omega (
       arith,
       report-few given.holds.0.tabled,
-      (c.before.before.write-report.ensures given.state given.holds.0 given.holds.1).0,
+      (c.write_report-count.ensures given.state given.holds.0 given.holds.1).0,
     )
 
-returns-2 : tie.Need-returns-2
+returns-2 : tie.Need-returns
 returns-2 c = λ s shown e.
-    let room = c.before.before.before.before in
-    let w = c.before.before.write-report.ensures s shown e in
-    emit_whole _ _ _ (rw (room.before.report-length.ensures s shown e) at room.if1.false) _ _ w.0 w.1
+    let room = c in
+    let w = c.write_report-count.ensures s shown e in
+    emit_whole _ _ _ (rw (room.report_length.ensures s shown e) at room.if-out-report_length.false) _ _ w.0 w.1
 
-pub emit-report-spec : {M : Type 1} → statement M
-emit-report-spec =
+pub emit_report_spec : {M : Type 1} → statement M
+emit_report_spec =
     tie.close
     (tie.spec
     (λ c κs. search rules)

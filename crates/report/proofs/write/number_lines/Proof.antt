@@ -8,48 +8,48 @@ use borrow.Author.Rules.{rules}
 use Rattle.report.proofs.write.number_lines.Statement.{statement}
 use Rattle.report.proofs.write.number_lines.Tie as tie
 
-cast-head : tie.Need-overflow-cast-head
+cast-head : tie.Need-overflow_cast-head
 cast-head c =
-    let given = c.before.before.before.before.requires.0 in
+    let given = c.requires.0 in
     omega (arith, few-lines given.holds.0, ap length given.holds.1)
 
-slice-write-head : tie.Need-slice-write-head
+slice-write-head : tie.Need-bounds-head-0
 slice-write-head c = search rules
 
 renumber-requires : tie.Need-renumber-requires
 renumber-requires c κs =
-    let start = c.before.before.before.before.before in
+    let start = c in
     let given = start.requires.0 in
     (subst (Marks _ _) (sym given.holds.1) (lines-marked given.holds.0), rw length-set (omega arith))
 
-cast-head-2 : tie.Need-overflow-cast-head-2
+cast-head-2 : tie.Need-overflow_cast-head-2
 cast-head-2 c =
-    let given = c.before.before.before.before.before.before.before.before.requires.0 in
+    let given = c.requires.0 in
     omega (arith, few-classes given.holds.0, given.holds.2)
 
-add-head : tie.Need-overflow-add-head
+add-head : tie.Need-overflow_add-head
 add-head c = search rules
 
-mul-head : tie.Need-overflow-mul-head
+mul-head : tie.Need-offset_bounds-head-k
 mul-head c = search rules
 
 -- renumbering keeps the length
-put-length : (c : tie.After-slice-known2) → length c.before.before.renumber.new.1.1.1.0 ≡ length c.before.before.before.before.before.before.before.before.args.head.now
-put-length c = c.before.before.renumber.auto.1.1.1.0 ∙ length-set c.before.before.before.before.before.before.before.before.args.head.now 0 _
+put-length : (c : tie.After-slice_known-2-1) → length c.renumber.new.out ≡ length c.args.head.now
+put-length c = c.renumber.auto.out ∙ length-set c.args.head.now 0 _
 
-slice-write-head-2 : tie.Need-slice-write-head-2
+slice-write-head-2 : tie.Need-bounds-head-k
 slice-write-head-2 c = omega (arith, put-length c)
 
-same_length : tie.Need-same-length
-same_length c = length-set c.before.before.renumber.new.1.1.1.0 _ _ ∙ put-length c
+same_length : tie.Need-shape_of-head
+same_length c = length-set c.renumber.new.out _ _ ∙ put-length c
 
 returns : tie.Need-returns
 returns c = λ s t e f.
-    let start = c.before.before.before.before.before.before.before.before in
-    head_put t start.args.lines.now start.args.count e f start.args.head.now _ start.requires.1 c.before.before.renumber.ensures
+    let start = c in
+    head_put t start.args.lines.now start.args.count e f start.args.head.now _ start.requires.1 c.renumber.ensures
 
-pub number-lines-spec : {M : Type 1} → statement M
-number-lines-spec =
+pub number_lines_spec : {M : Type 1} → statement M
+number_lines_spec =
     tie.close
     (tie.spec
     cast-head

@@ -8,18 +8,18 @@ use Rattle.report.proofs.write.Whole.{told_closed, told_tabled, told_fits, told_
 use Rattle.report.proofs.write.report.Statement.{statement}
 use Rattle.report.proofs.write.report.Tie as tie
 
-number-classes-requires : tie.Need-number-classes-requires
+number-classes-requires : tie.Need-number_classes-count-requires
 number-classes-requires c κs =
-    let start = c.before.before.before.before.before.before.before.before.before in
+    let start = c in
     let given = start.requires.0 in
     (told_closed given.holds.0 given.holds.1, start.requires.1.0)
 
-number-lines-requires : tie.Need-number-lines-requires
+number-lines-requires : tie.Need-number_lines-requires
 number-lines-requires c κs =
-    let numbered = c.before.before.before.before.before.before in
-    let start = numbered.before.before.before.before.before.before.before.before.before.before in
+    let numbered = c in
+    let start = numbered in
     let given = start.requires.0 in
-    let h = numbered.number-classes.ensures in (
+    let h = numbered.number_classes-count.ensures in (
       record {
         state = given.state;
         holds = (told_tabled given.holds.0 given.holds.1 h, given.holds.0.is-lines, told_count given.holds.0 given.holds.1 h);
@@ -28,42 +28,42 @@ number-lines-requires c κs =
     )
 
 -- the classes and the numbers before the entries lie in their slices
-slice-aggregate-emit-report : tie.Need-slice-aggregate-emit-report
+slice-aggregate-emit-report : tie.Need-slice_bounds-emit_report-end-2
 slice-aggregate-emit-report c =
-    let numbered = c.before.before.before.before.before.before.before.before.before.before in
-    let given = numbered.before.before.before.before.before.before.before.before.before.before.requires.0 in
-    sym (length-take-le _ _ (told_fits given.holds.0 given.holds.1 numbered.number-classes.ensures))
+    let numbered = c in
+    let given = numbered.requires.0 in
+    sym (length-take-le _ _ (told_fits given.holds.0 given.holds.1 numbered.number_classes-count.ensures))
 
-slice-aggregate-emit-report-2 : tie.Need-slice-aggregate-emit-report-2
+slice-aggregate-emit-report-2 : tie.Need-slice_bounds-emit_report-end-4
 slice-aggregate-emit-report-2 c =
-    let lines = c.before.before.before.before.before in
-    let start = lines.before.before.before.before.before.before.before.before.before.before.before.before.before.before.before.before.before in
-    sym (length-take-le _ _ (omega (arith, lines.number-lines.auto.1.1.1.1.0, start.requires.1.1)))
+    let lines = c in
+    let start = lines in
+    sym (length-take-le _ _ (omega (arith, lines.number_lines.auto.head, start.requires.1.1)))
 
-emit-report-requires : tie.Need-emit-report-requires
+emit-report-requires : tie.Need-emit_report-requires
 emit-report-requires c κs =
-    let lines = c.before.before.before.before.before.before.before in
-    let numbered = lines.before.before.before.before.before.before.before in
-    let given = numbered.before.before.before.before.before.before.before.before.before.before.requires.0 in
-    let h = numbered.number-classes.ensures in
+    let lines = c in
+    let numbered = lines in
+    let given = numbered.requires.0 in
+    let h = numbered.number_classes-count.ensures in
     let t = given.holds.0 in
     let e = given.holds.1 in
     record {
       state = given.state;
-      holds = (told_shown t e h, told_head t e _ _ (lines.number-lines.ensures _ (told_tabled t e h) t.is-lines (told_count t e h)));
+      holds = (told_shown t e h, told_head t e _ _ (lines.number_lines.ensures _ (told_tabled t e h) t.is-lines (told_count t e h)));
     }
 
 returns : tie.Need-returns
 returns c = λ s t e.
-    let emitted = c.before.before in
-    let lines = emitted.before.before.before.before.before.before.before.before in
-    let numbered = lines.before.before.before.before.before.before.before in
-    let h = numbered.number-classes.ensures in
-    emitted.emit-report.ensures s (told_shown t e h)
-    (told_head t e _ _ (lines.number-lines.ensures s (told_tabled t e h) t.is-lines (told_count t e h)))
+    let emitted = c in
+    let lines = emitted in
+    let numbered = lines in
+    let h = numbered.number_classes-count.ensures in
+    emitted.emit_report.ensures s (told_shown t e h)
+    (told_head t e _ _ (lines.number_lines.ensures s (told_tabled t e h) t.is-lines (told_count t e h)))
 
-pub report-spec : {M : Type 1} → statement M
-report-spec =
+pub report_spec : {M : Type 1} → statement M
+report_spec =
     tie.close
     (tie.spec
     number-classes-requires

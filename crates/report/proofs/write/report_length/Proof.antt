@@ -8,41 +8,41 @@ use Rattle.report.proofs.write.Lengths.{Sum, sum-none, sum_fits, sum_more, sum-a
 use Rattle.report.proofs.write.report_length.Statement.{statement}
 use Rattle.report.proofs.write.report_length.Tie as tie
 
-abbrev invariant-loop : tie.invariant-loop
+abbrev invariant-loop : tie.invariant-loop-n
 invariant-loop names entries met numbers head sum₀ n₀ sum n =
     (n ≤ length met) × Sum names entries met numbers head sum n
 
-abbrev decreases-loop : tie.decreases-loop
+abbrev decreases-loop : tie.decreases-loop-n
 decreases-loop names entries met numbers head sum₀ n₀ sum n = length met - n
 
-run-length-requires : tie.Need-run-length-requires invariant-loop decreases-loop
+run-length-requires : tie.Need-run_length-sum-requires invariant-loop decreases-loop
 run-length-requires c κs = omega arith
 
-loop-holds : tie.Need-loop-init invariant-loop decreases-loop
-loop-holds c = (omega arith, sum-none c.run_length.ensures)
+loop-holds : tie.Need-loop-n-init invariant-loop decreases-loop
+loop-holds c = (omega arith, sum-none c.run_length-sum.ensures)
 
-entry-length-requires : tie.Need-entry-length-requires invariant-loop decreases-loop
-entry-length-requires c κs = (c.loop-test.true, readable c.before.before.before.before.before.before.before.before.requires.holds.0 _ c.loop-test.true)
+entry-length-requires : tie.Need-entry_length-sum-requires invariant-loop decreases-loop
+entry-length-requires c κs = (c.loop-n-test.true, readable c.requires.holds.0 _ c.loop-n-test.true)
 
-add-sum : tie.Need-overflow-add-sum invariant-loop decreases-loop
+add-sum : tie.Need-overflow_add-sum invariant-loop decreases-loop
 add-sum c =
-    let given = c.before.before.before.before.before.before.before.before.before.requires in
-    omega (arith, sum_fits c.before.loop-test.true c.before.before.loop.invariant.1 c.entry_length.ensures given.holds.0 given.holds.1)
+    let given = c.requires in
+    omega (arith, sum_fits c.loop-n-test.true c.loop-n.invariant.1 c.entry_length-sum.ensures given.holds.0 given.holds.1)
 
-add-n : tie.Need-overflow-add-n invariant-loop decreases-loop
+add-n : tie.Need-overflow_add-n invariant-loop decreases-loop
 add-n c = omega arith
 
-loop-less : tie.Need-loop-smaller invariant-loop decreases-loop
+loop-less : tie.Need-loop-n-smaller invariant-loop decreases-loop
 loop-less c = omega arith
 
-loop-again : tie.Need-loop-preserved invariant-loop decreases-loop
-loop-again c = (omega arith, sum_more c.before.loop-test.true c.before.before.loop.invariant.1 c.entry_length.ensures)
+loop-again : tie.Need-loop-n-preserved invariant-loop decreases-loop
+loop-again c = (omega arith, sum_more c.loop-n-test.true c.loop-n.invariant.1 c.entry_length-sum.ensures)
 
 returns : tie.Need-returns invariant-loop decreases-loop
-returns c = sum-all (omega arith) c.before.loop.invariant.1
+returns c = sum-all (omega arith) c.loop-n.invariant.1
 
-pub report-length-spec : {M : Type 1} → statement M
-report-length-spec =
+pub report_length_spec : {M : Type 1} → statement M
+report_length_spec =
     tie.close
     (tie.spec
     invariant-loop

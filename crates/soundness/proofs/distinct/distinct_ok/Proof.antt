@@ -15,85 +15,78 @@ use Rattle.soundness.proofs.distinct.Own.{own_place, all-distinct, not-distinct}
 use Rattle.soundness.proofs.distinct.distinct_ok.Statement.{statement}
 use Rattle.soundness.proofs.distinct.distinct_ok.Tie as tie
 
-abbrev invariant-loop : tie.invariant-loop
+abbrev invariant-loop : tie.invariant-loop-i
 invariant-loop entries m lefts₀ rights₀ cells₀ i₀ lefts rights cells i =
     Filling (λ t. t) (table_of entries m) lefts₀ rights₀ cells₀ lefts rights cells i × Passed (own_place (λ t. t) (table_of entries m)) i
 
-abbrev decreases-loop : tie.decreases-loop
+abbrev decreases-loop : tie.decreases-loop-i
 decreases-loop entries m lefts₀ rights₀ cells₀ i₀ lefts rights cells i = m - i
 
--- the start of a turn, from its call, and of the function, from its loop
-abbrev turn : tie.After-push invariant-loop decreases-loop → tie.In-loop invariant-loop decreases-loop
-turn c = c.before.before.before.before.before.before
-
-abbrev start : tie.At-loop invariant-loop decreases-loop → tie.Start invariant-loop decreases-loop
-start c = c.before.before.before.before.before.before.before.before.before
-
-loop-holds : tie.Need-loop-init invariant-loop decreases-loop
+loop-holds : tie.Need-loop-i-init invariant-loop decreases-loop
 loop-holds c =
-    let cleared = c.before.before.clear in
-    (filling_none _ _ (length-table_of _ _) c.before.before.before.before.before.before.before.before.requires.1 cleared.ensures cleared.auto.0, below_none _)
+    let cleared = c.clear in
+    (filling_none _ _ (length-table_of _ _) c.requires.1 cleared.ensures cleared.auto.words, below_none _)
 
-push-requires : tie.Need-push-requires invariant-loop decreases-loop
+push-requires : tie.Need-push-place-requires invariant-loop decreases-loop
 push-requires c κs =
-    let t = c.before.before.before.before.before in
-    let h = t.before.loop.invariant.0 in
-    (h.filled.indexed, push_room _ _ (rw length-table_of t.loop-test.true) h)
+    let t = c in
+    let h = t.loop-i.invariant.0 in
+    (h.filled.indexed, push_room _ _ (rw length-table_of t.loop-i-test.true) h)
 
 -- what the call answers
-place : (c : tie.After-push invariant-loop decreases-loop) →
-    let a = (start (turn c).before).args in
-    c.push.result ≡ place_by (λ t. t) (table_of a.entries.now a.m) (turn c).before.loop.i
+place : (c : tie.After-push-place invariant-loop decreases-loop) →
+    let a = c.args in
+    c.push-place.result ≡ place_by (λ t. t) (table_of a.entries.now a.m) c.loop-i.i
 place c =
-    let l = (turn c).loop-test.true in
-    filled_place _ _ (rw length-table_of l) (turn c).before.loop.invariant.0.filled c.push.ensures
+    let l = c.loop-i-test.true in
+    filled_place _ _ (rw length-table_of l) c.loop-i.invariant.0.filled c.push-place.ensures
     (sym (entry-left _ _ _ l)) (sym (entry-right _ _ _ l))
 
-same_length : tie.Need-same-length invariant-loop decreases-loop
+same_length : tie.Need-shape_of-lefts-then-place-i invariant-loop decreases-loop
 same_length c =
-    let p = c.before.before.before.before.before.before.before in
-    p.push.auto.0 ∙ (turn p).before.loop.invariant.0.lefts_size
+    let p = c in
+    p.push-place.auto.lefts ∙ p.loop-i.invariant.0.lefts_size
 
-same-length-2 : tie.Need-same-length-2 invariant-loop decreases-loop
+same-length-2 : tie.Need-shape_of-rights-then-place-i invariant-loop decreases-loop
 same-length-2 c =
-    let p = c.before.before.before.before.before.before.before in
-    p.push.auto.1.0 ∙ (turn p).before.loop.invariant.0.rights_size
+    let p = c in
+    p.push-place.auto.rights ∙ p.loop-i.invariant.0.rights_size
 
-same-length-3 : tie.Need-same-length-3 invariant-loop decreases-loop
+same-length-3 : tie.Need-shape_of-cells-then-place-i invariant-loop decreases-loop
 same-length-3 c =
-    let p = c.before.before.before.before.before.before.before in
-    p.push.auto.1.1.0 ∙ (turn p).before.loop.invariant.0.cells_size ∙ (turn p).before.before.before.before.clear.auto.0
+    let p = c in
+    p.push-place.auto.cells ∙ p.loop-i.invariant.0.cells_size ∙ p.clear.auto.words
 
-returns : tie.Need-returns invariant-loop decreases-loop
+returns : tie.Need-returns-then-place-i invariant-loop decreases-loop
 returns c =
-    let p = c.before.before.before.before.before.before.before in
-    not-distinct _ _ _ (turn p).loop-test.true (ne_eqb _ _ (λ e. c.if1.true (place p ∙ e)))
+    let p = c in
+    not-distinct _ _ _ p.loop-i-test.true (ne_eqb _ _ (λ e. c.if-place-i.true (place p.before.before.before.before.before.before.before ∙ e)))
 
-loop-again : tie.Need-loop-preserved invariant-loop decreases-loop
+loop-again : tie.Need-loop-i-preserved invariant-loop decreases-loop
 loop-again c =
-    let p = c.before.before.before.before.before.before.before in
-    let t = turn p in
-    let l = t.loop-test.taken in
-    let h = t.before.loop.inv in (
-      filling_more _ _ (rw length-table_of l) h.0 p.push.ensures p.push.auto.1.1.0
+    let p = c in
+    let t = p in
+    let l = t.loop-i-test.true in
+    let h = t.loop-i.invariant in (
+      filling_more _ _ (rw length-table_of l) h.0 p.push-place.ensures p.push-place.auto.cells
           (sym (entry-left _ _ _ l)) (sym (entry-right _ _ _ l)),
-      below_more _ _ h.1 (eq-eqb _ _ (sym (place p) ∙ c.if1.false)),
+      below_more _ _ h.1 (eq-eqb _ _ (sym (place p.before.before.before.before.before.before.before) ∙ c.if-place-i.false)),
     )
 
-same-length-4 : tie.Need-same-length-4 invariant-loop decreases-loop
-same-length-4 c = c.before.loop.invariant.0.lefts_size
+same-length-4 : tie.Need-shape_of-lefts invariant-loop decreases-loop
+same-length-4 c = c.loop-i.invariant.0.lefts_size
 
-same-length-5 : tie.Need-same-length-5 invariant-loop decreases-loop
-same-length-5 c = c.before.loop.invariant.0.rights_size
+same-length-5 : tie.Need-shape_of-rights invariant-loop decreases-loop
+same-length-5 c = c.loop-i.invariant.0.rights_size
 
-same-length-6 : tie.Need-same-length-6 invariant-loop decreases-loop
-same-length-6 c = c.before.loop.invariant.0.cells_size ∙ c.before.before.before.before.clear.auto.0
+same-length-6 : tie.Need-shape_of-cells invariant-loop decreases-loop
+same-length-6 c = c.loop-i.invariant.0.cells_size ∙ c.clear.auto.words
 
-returns-2 : tie.Need-returns-2 invariant-loop decreases-loop
-returns-2 c = sym (T_true _ (all-distinct _ _ _ (λ t. t) c.loop-test.false c.before.loop.invariant.1))
+returns-2 : tie.Need-returns invariant-loop decreases-loop
+returns-2 c = sym (T_true _ (all-distinct _ _ _ (λ t. t) c.loop-i-test.false c.loop-i.invariant.1))
 
-pub distinct-ok-spec : {M : Type 1} → statement M
-distinct-ok-spec =
+pub distinct_ok_spec : {M : Type 1} → statement M
+distinct_ok_spec =
     tie.close
     (tie.spec
     invariant-loop

@@ -25,142 +25,135 @@ use Rattle.soundness.proofs.entries.Table.{same_as_place}
 use Rattle.soundness.proofs.entries.same_as_ok.Statement.{statement}
 use Rattle.soundness.proofs.entries.same_as_ok.Tie as tie
 
-abbrev invariant-loop : tie.invariant-loop
+abbrev invariant-loop : tie.invariant-loop-i
 invariant-loop names entries m lefts₀ rights₀ cells₀ apart₀ i₀ lefts rights cells apart i =
     Filling (at names) (table_of entries m) lefts₀ rights₀ cells₀ lefts rights cells i
     × ((b : Book) (β : Bindings) → Named b β names entries m → Passed (λ j. same_as_right b β (table_of entries m) (entry (table_of entries m) j)) i)
     × (apart ≡ true → Passed (own_place (at names) (table_of entries m)) i)
 
-abbrev decreases-loop : tie.decreases-loop
+abbrev decreases-loop : tie.decreases-loop-i
 decreases-loop names entries m lefts₀ rights₀ cells₀ apart₀ i₀ lefts rights cells apart i = m - i
 
--- the start of a turn, from its call, and of the function, from its loop
-abbrev turn : tie.After-push invariant-loop decreases-loop → tie.In-loop invariant-loop decreases-loop
-turn c = c.before.before.before.before.before.before.before.before
-
-abbrev start : tie.At-loop invariant-loop decreases-loop → tie.Start invariant-loop decreases-loop
-start c = c.before.before.before.before.before.before.before.before.before.before
-
-loop-holds : tie.Need-loop-init invariant-loop decreases-loop
+loop-holds : tie.Need-loop-i-init invariant-loop decreases-loop
 loop-holds c =
-    let cleared = c.before.before.clear in
-    (filling_none _ _ (length-table_of _ _) c.before.before.before.before.before.before.before.before.before.requires.1 cleared.ensures cleared.auto.0, (λ b β k. below_none _), λ e. below_none _)
+    let cleared = c.clear in
+    (filling_none _ _ (length-table_of _ _) c.requires.1 cleared.ensures cleared.auto.words, (λ b β k. below_none _), λ e. below_none _)
 
 -- the sides are terms
-left-term : (c : tie.In-loop invariant-loop decreases-loop) →
-    let s = start c.before in
-    at s.args.entries.now (entry_row_words * c.before.loop.i) < length s.pre.0.book
-left-term c = left_lt (start c.before).pre.0.known c.loop-test.true
+left-term : (c : tie.In-loop-i invariant-loop decreases-loop) →
+    let s = c in
+    at s.args.entries.now (entry_row_words * c.loop-i.i) < length s.requires.0.book
+left-term c = left_lt c.requires.0.known c.loop-i-test.true
 
-right-term : (c : tie.In-loop invariant-loop decreases-loop) →
-    let s = start c.before in
-    at s.args.entries.now (entry_row_words * c.before.loop.i + 1) < length s.pre.0.book
-right-term c = right_lt (start c.before).pre.0.known c.loop-test.true
+right-term : (c : tie.In-loop-i invariant-loop decreases-loop) →
+    let s = c in
+    at s.args.entries.now (entry_row_words * c.loop-i.i + 1) < length s.requires.0.book
+right-term c = right_lt c.requires.0.known c.loop-i-test.true
 
-cast-left : tie.Need-overflow-cast-left invariant-loop decreases-loop
-cast-left c = omega (arith, left-term c.before, (start c.before.before).pre.0.known.names_fit)
+cast-left : tie.Need-overflow_cast-left invariant-loop decreases-loop
+cast-left c = omega (arith, left-term c.before, c.requires.0.known.names_fit)
 
-cast-right : tie.Need-overflow-cast-right invariant-loop decreases-loop
+cast-right : tie.Need-overflow_cast-right invariant-loop decreases-loop
 cast-right c =
-    let t = c.before.before in
-    omega (arith, right-term t, (start t.before).pre.0.known.names_fit)
+    let t = c in
+    omega (arith, right-term t.before.before, t.requires.0.known.names_fit)
 
-mul-push : tie.Need-overflow-mul-push invariant-loop decreases-loop
+mul-push : tie.Need-offset_bounds-names-left invariant-loop decreases-loop
 mul-push c =
-    let t = c.before.before.before.before.before in
-    omega (arith, left-term t, (start t.before).pre.0.known.names_fit)
+    let t = c in
+    omega (arith, left-term t.before.before.before.before.before, t.requires.0.known.names_fit)
 
-shared-slice-read-push : tie.Need-shared-slice-read-push invariant-loop decreases-loop
+shared-slice-read-push : tie.Need-bounds-names-left invariant-loop decreases-loop
 shared-slice-read-push c =
-    let t = c.before.before.before.before.before.before in
-    omega (arith, left-term t, (start t.before).pre.0.known.names_fit)
+    let t = c in
+    omega (arith, left-term t.before.before.before.before.before.before, t.requires.0.known.names_fit)
 
-mul-push-2 : tie.Need-overflow-mul-push-2 invariant-loop decreases-loop
+mul-push-2 : tie.Need-offset_bounds-names-right invariant-loop decreases-loop
 mul-push-2 c =
-    let t = c.before.before.before.before.before.before in
-    omega (arith, right-term t, (start t.before).pre.0.known.names_fit)
+    let t = c in
+    omega (arith, right-term t.before.before.before.before.before.before, t.requires.0.known.names_fit)
 
-shared-slice-read-push-2 : tie.Need-shared-slice-read-push-2 invariant-loop decreases-loop
+shared-slice-read-push-2 : tie.Need-bounds-names-right invariant-loop decreases-loop
 shared-slice-read-push-2 c =
-    let t = c.before.before.before.before.before.before.before in
-    omega (arith, right-term t, (start t.before).pre.0.known.names_fit)
+    let t = c in
+    omega (arith, right-term t.before.before.before.before.before.before.before, t.requires.0.known.names_fit)
 
-push-requires : tie.Need-push-requires invariant-loop decreases-loop
+push-requires : tie.Need-push-place-requires invariant-loop decreases-loop
 push-requires c κs =
-    let t = c.before.before.before.before.before.before.before in
-    let h = t.before.loop.invariant.0 in
-    (h.filled.indexed, push_room _ _ (rw length-table_of t.loop-test.true) h)
+    let t = c in
+    let h = t.loop-i.invariant.0 in
+    (h.filled.indexed, push_room _ _ (rw length-table_of t.loop-i-test.true) h)
 
-cast-if1 : tie.Need-overflow-cast-if1 invariant-loop decreases-loop
+cast-if1 : tie.Need-overflow_cast-entries invariant-loop decreases-loop
 cast-if1 c =
-    let i = c.before.before.before.before.before.before.before.before.before.before.before.before.before.before.before.before.loop.i in
-    omega (arith, c.shared-slice-known7.given (entry_row_words * i + entry_row_words - 1))
+    let i = c.loop-i.i in
+    omega (arith, c.shared_slice_known-in-loop-i-5-1.given (entry_row_words * i + entry_row_words - 1))
 
 -- what the call answers
-place : (c : tie.After-push invariant-loop decreases-loop) →
-    let a = (start (turn c).before).args in
-    c.push.result ≡ place_by (at a.names.now) (table_of a.entries.now a.m) (turn c).before.loop.i
+place : (c : tie.After-push-place invariant-loop decreases-loop) →
+    let a = c.args in
+    c.push-place.result ≡ place_by (at a.names.now) (table_of a.entries.now a.m) c.loop-i.i
 place c =
-    let t = turn c in
-    let l = t.loop-test.taken in
-    let f = at (start t.before).args.names.now in
-    filled_place _ _ (rw length-table_of l) t.before.loop.inv.0.filled c.push.ensures
+    let t = c in
+    let l = t.loop-i-test.true in
+    let f = at t.args.names.now in
+    filled_place _ _ (rw length-table_of l) t.loop-i.invariant.0.filled c.push-place.ensures
     (ap f (sym (entry-left _ _ _ l))) (ap f (sym (entry-right _ _ _ l)))
 
-same_length : tie.Need-same-length invariant-loop decreases-loop
+same_length : tie.Need-shape_of-lefts-then-place-entries invariant-loop decreases-loop
 same_length c =
-    let p = c.before.before.before.before.before.before.before.before in
-    p.push.auto.0 ∙ (turn p).before.loop.invariant.0.lefts_size
+    let p = c in
+    p.push-place.auto.lefts ∙ p.loop-i.invariant.0.lefts_size
 
-same-length-2 : tie.Need-same-length-2 invariant-loop decreases-loop
+same-length-2 : tie.Need-shape_of-rights-then-place-entries invariant-loop decreases-loop
 same-length-2 c =
-    let p = c.before.before.before.before.before.before.before.before in
-    p.push.auto.1.0 ∙ (turn p).before.loop.invariant.0.rights_size
+    let p = c in
+    p.push-place.auto.rights ∙ p.loop-i.invariant.0.rights_size
 
-same-length-3 : tie.Need-same-length-3 invariant-loop decreases-loop
+same-length-3 : tie.Need-shape_of-cells-then-place-entries invariant-loop decreases-loop
 same-length-3 c =
-    let p = c.before.before.before.before.before.before.before.before in
-    p.push.auto.1.1.0 ∙ (turn p).before.loop.invariant.0.cells_size ∙ (turn p).before.before.before.before.clear.auto.0
+    let p = c in
+    p.push-place.auto.cells ∙ p.loop-i.invariant.0.cells_size ∙ p.clear.auto.words
 
-returns : tie.Need-returns invariant-loop decreases-loop
+returns : tie.Need-returns-then-place-entries invariant-loop decreases-loop
 returns c =
-    let p = c.before.before.before.before.before.before.before.before in
-    let l = (turn p).loop-test.true in (
-      λ b β k. sym (one_failed _ _ (hole_at 0 0 0) _ (rw length-table_of l) (same_as_place k l ∙ ne_eqb _ _ (λ e. c.if1.true (place p ∙ sym e)))),
+    let p = c in
+    let l = p.loop-i-test.true in (
+      λ b β k. sym (one_failed _ _ (hole_at 0 0 0) _ (rw length-table_of l) (same_as_place k l ∙ ne_eqb _ _ (λ e. c.if-place-entries.true (place p.before.before.before.before.before.before.before.before ∙ sym e)))),
       λ e h. absurd (false≢true e),
     )
 
-loop-again : tie.Need-loop-preserved invariant-loop decreases-loop
+loop-again : tie.Need-loop-i-preserved invariant-loop decreases-loop
 loop-again c =
-    let p = c.before.before.before.before.before.before.before.before.before in
-    let t = turn p in
-    let l = t.loop-test.taken in
-    let f = at (start t.before).args.names.now in
-    let h = t.before.loop.inv in (
-      filling_more _ _ (rw length-table_of l) h.0 p.push.ensures p.push.auto.1.1.0
+    let p = c in
+    let t = p in
+    let l = t.loop-i-test.true in
+    let f = at t.args.names.now in
+    let h = t.loop-i.invariant in (
+      filling_more _ _ (rw length-table_of l) h.0 p.push-place.ensures p.push-place.auto.cells
           (ap f (sym (entry-left _ _ _ l))) (ap f (sym (entry-right _ _ _ l))),
-      λ b β k. below_more _ _ (h.1 b β k) (same_as_place k l ∙ eq-eqb _ _ (sym c.before.if1.false ∙ place p)),
+      λ b β k. below_more _ _ (h.1 b β k) (same_as_place k l ∙ eq-eqb _ _ (sym c.if-place-entries.false ∙ place p.before.before.before.before.before.before.before.before.before)),
       λ e. ⊎_elim (λ u. absurd (false≢true (sym u.1 ∙ e)))
-          (λ u. below_more _ _ (h.2 (sym u.1 ∙ e)) (eq-eqb _ _ (sym (place p) ∙ u.0.left))) c.if2.branch,
+          (λ u. below_more _ _ (h.2 (sym u.1 ∙ e)) (eq-eqb _ _ (sym (place p.before.before.before.before.before.before.before.before.before) ∙ u.0.left))) c.if-place-i.branch,
     )
 
-same-length-4 : tie.Need-same-length-4 invariant-loop decreases-loop
-same-length-4 c = c.before.loop.invariant.0.lefts_size
+same-length-4 : tie.Need-shape_of-lefts invariant-loop decreases-loop
+same-length-4 c = c.loop-i.invariant.0.lefts_size
 
-same-length-5 : tie.Need-same-length-5 invariant-loop decreases-loop
-same-length-5 c = c.before.loop.invariant.0.rights_size
+same-length-5 : tie.Need-shape_of-rights invariant-loop decreases-loop
+same-length-5 c = c.loop-i.invariant.0.rights_size
 
-same-length-6 : tie.Need-same-length-6 invariant-loop decreases-loop
-same-length-6 c = c.before.loop.invariant.0.cells_size ∙ c.before.before.before.before.clear.auto.0
+same-length-6 : tie.Need-shape_of-cells invariant-loop decreases-loop
+same-length-6 c = c.loop-i.invariant.0.cells_size ∙ c.clear.auto.words
 
-returns-2 : tie.Need-returns-2 invariant-loop decreases-loop
+returns-2 : tie.Need-returns invariant-loop decreases-loop
 returns-2 c = (
-  λ b β k. sym (each_passed _ _ (hole_at 0 0 0) _ (rw length-table_of c.loop-test.false) (c.before.loop.invariant.1 b β k)),
-  λ e apart. all-distinct _ _ _ (at (start c.before).args.names.now) c.loop-test.false (c.before.loop.invariant.2 apart),
+  λ b β k. sym (each_passed _ _ (hole_at 0 0 0) _ (rw length-table_of c.loop-i-test.false) (c.loop-i.invariant.1 b β k)),
+  λ e apart. all-distinct _ _ _ (at c.args.names.now) c.loop-i-test.false (c.loop-i.invariant.2 apart),
 )
 
-pub same-as-ok-spec : {M : Type 1} → statement M
-same-as-ok-spec =
+pub same_as_ok_spec : {M : Type 1} → statement M
+same_as_ok_spec =
     tie.close
     (tie.spec
     invariant-loop

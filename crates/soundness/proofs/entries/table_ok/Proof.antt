@@ -9,56 +9,56 @@ use Rattle.soundness.proofs.entries.table_ok.Statement.{statement}
 use Rattle.soundness.proofs.entries.table_ok.Tie as tie
 
 -- a kind is wrong
-returns : tie.Need-returns
-returns c b β k = rw (table-values b β _, sym (c.before.kinds-ok.ensures b β k) ∙ not-true _ c.if1.true)
+returns : tie.Need-returns-then-not-kinds_ok
+returns c b β k = rw (table-values b β _, sym (c.kinds_ok.ensures b β k) ∙ not-true _ c.if-not-kinds_ok.true-raw)
 
 -- a same-as is wrong
-returns-2 : tie.Need-returns-2
+returns-2 : tie.Need-returns-then-not-found
 returns-2 c b β k =
-    let called = c.before.before.before.before.before.before.before.before in
-    let first = called.before.before.before.before in
+    let called = c in
+    let first = called in
     rw (
       table-values b β _,
-      sym (first.before.kinds-ok.ensures b β k) ∙ not-false _ first.if1.false,
-      sym (called.same-as-ok.ensures.0 b β k.held.named) ∙ not-true _ c.if2.true,
+      sym (first.kinds_ok.ensures b β k) ∙ not-false _ first.if-not-kinds_ok.false-raw,
+      sym (called.same_as_ok-found.ensures.0 b β k.held.named) ∙ not-true _ c.if-not-found.true,
     )
 
 -- no two entries have the same names
-returns-3 : tie.Need-returns-3
+returns-3 : tie.Need-returns-then-found
 returns-3 c b β k =
-    let called = c.before.before.before.before.before.before.before.before.before in
-    let first = called.before.before.before.before in
-    let right = not-false _ c.before.if2.false in
+    let called = c in
+    let first = called in
+    let right = not-false _ c.if-not-found.false in
     rw (
       table-values b β _,
-      sym (first.before.kinds-ok.ensures b β k) ∙ not-false _ first.if1.false,
-      sym (called.same-as-ok.ensures.0 b β k.held.named) ∙ right,
+      sym (first.kinds_ok.ensures b β k) ∙ not-false _ first.if-not-kinds_ok.false-raw,
+      sym (called.same_as_ok-found.ensures.0 b β k.held.named) ∙ right,
     )
-    (sym (T_true _ (called.same-as-ok.ensures.1 right c.if3.true)))
+    (sym (T_true _ (called.same_as_ok-found.ensures.1 right c.if-found.true)))
 
-distinct-ok-requires : tie.Need-distinct-ok-requires
+distinct-ok-requires : tie.Need-distinct_ok-requires
 distinct-ok-requires c κs =
-    let called = c.before.before.before.before.before.before.before.before.before.before.before.before in
-    let s = called.before.before.before.before.before.before.before.before.before.before.before.before.before.requires in
-    let kept = called.same-as-ok.auto in (
+    let called = c in
+    let s = called.requires in
+    let kept = called.same_as_ok-found.auto in (
       s.0.known.held.named.entries_fit,
-      room_kept s.1 kept.1.1.1.0 kept.1.1.1.1.0 kept.1.1.1.1.1.0,
+      room_kept s.1 kept.lefts kept.rights kept.cells,
     )
 
 -- no kind and no same-as is wrong
-returns-4 : tie.Need-returns-4
+returns-4 : tie.Need-returns
 returns-4 c b β k =
-    let called = c.before.before.before.before.before.before.before.before.before.before.before.before.before.before.before.before.before.before.before in
-    let first = called.before.before.before.before in
+    let called = c in
+    let first = called in
     rw (
       table-values b β _,
-      sym (first.before.kinds-ok.ensures b β k) ∙ not-false _ first.if1.false,
-      sym (called.same-as-ok.ensures.0 b β k.held.named) ∙ not-false _ c.before.before.before.before.before.before.before.before.before.before.before.if2.false,
+      sym (first.kinds_ok.ensures b β k) ∙ not-false _ first.if-not-kinds_ok.false-raw,
+      sym (called.same_as_ok-found.ensures.0 b β k.held.named) ∙ not-false _ c.if-not-found.false,
     )
-    c.before.before.before.before.before.before.distinct-ok.ensures
+    c.distinct_ok.ensures
 
-pub table-ok-spec : {M : Type 1} → statement M
-table-ok-spec =
+pub table_ok_spec : {M : Type 1} → statement M
+table_ok_spec =
     tie.close
     (tie.spec
     (λ c κs. search rules)

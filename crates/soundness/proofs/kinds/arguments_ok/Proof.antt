@@ -15,47 +15,47 @@ use Rattle.soundness.proofs.kinds.Arguments.{argument_at, other_left, other_righ
 use Rattle.soundness.proofs.kinds.arguments_ok.Statement.{statement}
 use Rattle.soundness.proofs.kinds.arguments_ok.Tie as tie
 
-abbrev invariant-loop : tie.invariant-loop
+abbrev invariant-loop : tie.invariant-loop-j
 invariant-loop names entries m args ls rs j₀ j =
     (b : Book) (β : Bindings) → Named b β names entries m × Terms b ls × Terms b rs → Passed (argument_at b β (table_of entries m) args ls rs) j
 
-abbrev decreases-loop : tie.decreases-loop
+abbrev decreases-loop : tie.decreases-loop-j
 decreases-loop names entries m args ls rs j₀ j = length args - j
 
-returns : tie.Need-returns invariant-loop decreases-loop
-returns c b β k = sym (other_left b β _ _ _ _ c.if1.true)
+returns : tie.Need-returns-then-args-ls invariant-loop decreases-loop
+returns c b β k = sym (other_left b β _ _ _ _ c.if-args-ls.true)
 
-returns-2 : tie.Need-returns-2 invariant-loop decreases-loop
-returns-2 c b β k = sym (other_right b β _ _ _ _ c.if2.true)
+returns-2 : tie.Need-returns-then-args-rs invariant-loop decreases-loop
+returns-2 c b β k = sym (other_right b β _ _ _ _ c.if-args-rs.true)
 
-loop-holds : tie.Need-loop-init invariant-loop decreases-loop
+loop-holds : tie.Need-loop-j-init invariant-loop decreases-loop
 loop-holds c b β k = below_none _
 
-argument-ok-requires : tie.Need-argument-ok-requires invariant-loop decreases-loop
+argument-ok-requires : tie.Need-argument_ok-requires invariant-loop decreases-loop
 argument-ok-requires c κs =
-    let g = c.before.before.before.before.before.before.before.before.before.before.before.before.requires in
-    let j = c.before.before.before.before.loop.j in
+    let g = c.requires in
+    let j = c.loop-j.j in
     record { book = g.book; bound = g.bound; known = (g.known.0, g.known.1 j (omega arith), g.known.2 j (omega arith)) }
 
-returns-3 : tie.Need-returns-3 invariant-loop decreases-loop
+returns-3 : tie.Need-returns-then-not-argument_ok invariant-loop decreases-loop
 returns-3 c b β k =
-    let j = c.before.before.before.before.before.before.loop.j in
-    sym (argument_failed b β _ _ _ _ j c.before.before.before.before.before.loop-test.true
-    (sym (c.before.argument-ok.ensures b β (k.0, k.1 j (omega arith), k.2 j (omega arith))) ∙ not-true _ c.if3.true))
+    let j = c.loop-j.j in
+    sym (argument_failed b β _ _ _ _ j c.loop-j-test.true
+    (sym (c.argument_ok.ensures b β (k.0, k.1 j (omega arith), k.2 j (omega arith))) ∙ not-true _ c.if-not-argument_ok.true-raw))
 
-loop-again : tie.Need-loop-preserved invariant-loop decreases-loop
+loop-again : tie.Need-loop-j-preserved invariant-loop decreases-loop
 loop-again c b β k =
-    let j = c.before.before.before.before.before.before.loop.j in
-    below_more _ _ (c.before.before.before.before.before.before.loop.invariant b β k)
-    (sym (c.before.argument-ok.ensures b β (k.0, k.1 j (omega arith), k.2 j (omega arith))) ∙ not-false _ c.if3.false)
+    let j = c.loop-j.j in
+    below_more _ _ (c.loop-j.invariant b β k)
+    (sym (c.argument_ok.ensures b β (k.0, k.1 j (omega arith), k.2 j (omega arith))) ∙ not-false _ c.if-not-argument_ok.false-raw)
 
-returns-4 : tie.Need-returns-4 invariant-loop decreases-loop
+returns-4 : tie.Need-returns invariant-loop decreases-loop
 returns-4 c b β k =
-    sym (arguments_passed b β _ _ _ _ _ c.loop-test.false c.before.before.before.if1.false c.before.before.if2.false
-    (c.before.loop.invariant b β k))
+    sym (arguments_passed b β _ _ _ _ _ c.loop-j-test.false c.if-args-ls.false c.if-args-rs.false
+    (c.loop-j.invariant b β k))
 
-pub arguments-ok-spec : {M : Type 1} → statement M
-arguments-ok-spec =
+pub arguments_ok_spec : {M : Type 1} → statement M
+arguments_ok_spec =
     tie.close
     (tie.spec
     invariant-loop

@@ -15,33 +15,33 @@ use Rattle.soundness.specs.kinds.KindTests.{kind_right}
 use Rattle.soundness.proofs.kinds.kinds_ok.Statement.{statement}
 use Rattle.soundness.proofs.kinds.kinds_ok.Tie as tie
 
-abbrev invariant-loop : tie.invariant-loop
+abbrev invariant-loop : tie.invariant-loop-i
 invariant-loop rows roots names entries m i₀ i =
     (b : Book) (β : Bindings) → Known b β rows roots names entries m → Passed (λ j. kind_right b β (table_of entries m) (entry (table_of entries m) j)) i
 
-abbrev decreases-loop : tie.decreases-loop
+abbrev decreases-loop : tie.decreases-loop-i
 decreases-loop rows roots names entries m i₀ i = m - i
 
-loop-holds : tie.Need-loop-init invariant-loop decreases-loop
+loop-holds : tie.Need-loop-i-init invariant-loop decreases-loop
 loop-holds c b β k = below_none _
 
-kind-ok-requires : tie.Need-kind-ok-requires invariant-loop decreases-loop
-kind-ok-requires c κs = (c.before.before.before.before.before.before.requires, c.loop-test.true)
+kind-ok-requires : tie.Need-kind_ok-requires invariant-loop decreases-loop
+kind-ok-requires c κs = (c.requires, c.loop-i-test.true)
 
-returns : tie.Need-returns invariant-loop decreases-loop
+returns : tie.Need-returns-then-not-kind_ok invariant-loop decreases-loop
 returns c b β k =
-    sym (one_failed _ _ (hole_at 0 0 0) _ (rw length-table_of c.before.before.loop-test.true)
-    (sym (c.before.Kind-ok.ensures b β k) ∙ not-true _ c.if1.true))
+    sym (one_failed _ _ (hole_at 0 0 0) _ (rw length-table_of c.loop-i-test.true)
+    (sym (c.kind_ok.ensures b β k) ∙ not-true _ c.if-not-kind_ok.true-raw))
 
-loop-again : tie.Need-loop-preserved invariant-loop decreases-loop
+loop-again : tie.Need-loop-i-preserved invariant-loop decreases-loop
 loop-again c b β k =
-    below_more _ _ (c.before.before.before.loop.invariant b β k) (sym (c.before.Kind-ok.ensures b β k) ∙ not-false _ c.if1.false)
+    below_more _ _ (c.loop-i.invariant b β k) (sym (c.kind_ok.ensures b β k) ∙ not-false _ c.if-not-kind_ok.false-raw)
 
-returns-2 : tie.Need-returns-2 invariant-loop decreases-loop
-returns-2 c b β k = sym (each_passed _ _ (hole_at 0 0 0) _ (rw length-table_of c.loop-test.false) (c.before.loop.invariant b β k))
+returns-2 : tie.Need-returns invariant-loop decreases-loop
+returns-2 c b β k = sym (each_passed _ _ (hole_at 0 0 0) _ (rw length-table_of c.loop-i-test.false) (c.loop-i.invariant b β k))
 
-pub kinds-ok-spec : {M : Type 1} → statement M
-kinds-ok-spec =
+pub kinds_ok_spec : {M : Type 1} → statement M
+kinds_ok_spec =
     tie.close
     (tie.spec
     invariant-loop

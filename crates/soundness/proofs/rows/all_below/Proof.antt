@@ -12,42 +12,42 @@ use Rattle.soundness.proofs.rows.Loops.{Passed, each_passed, one_failed}
 use Rattle.soundness.proofs.rows.all_below.Statement.{statement}
 use Rattle.soundness.proofs.rows.all_below.Tie as tie
 
-abbrev invariant-loop : tie.invariant-loop
+abbrev invariant-loop : tie.invariant-loop-i
 invariant-loop words limit i₀ i = Passed (λ j. ltb (get_or words j 0) limit) i
 
-abbrev decreases-loop : tie.decreases-loop
+abbrev decreases-loop : tie.decreases-loop-i
 decreases-loop words limit i₀ i = length words - i
 
-loop-holds : tie.Need-loop-init invariant-loop decreases-loop
+loop-holds : tie.Need-loop-i-init invariant-loop decreases-loop
 loop-holds c = below_none _
 
-mul-if1 : tie.Need-overflow-mul-if1 invariant-loop decreases-loop
+mul-if1 : tie.Need-offset_bounds-words-i invariant-loop decreases-loop
 mul-if1 c = search rules
 
-shared-slice-read-if1 : tie.Need-shared-slice-read-if1 invariant-loop decreases-loop
+shared-slice-read-if1 : tie.Need-bounds-words-i invariant-loop decreases-loop
 shared-slice-read-if1 c = search rules
 
-cast-if1 : tie.Need-overflow-cast-if1 invariant-loop decreases-loop
-cast-if1 c = omega (arith, c.shared-slice-known.given c.before.before.loop.i)
+cast-if1 : tie.Need-overflow_cast-words invariant-loop decreases-loop
+cast-if1 c = omega (arith, c.shared_slice_known-1.given c.loop-i.i)
 
-returns : tie.Need-returns invariant-loop decreases-loop
+returns : tie.Need-returns-then-limit-words invariant-loop decreases-loop
 returns c =
-    sym (one_failed _ _ 0 _ c.before.before.loop-test.true (le-ltb _ _ c.if1.true))
+    sym (one_failed _ _ 0 _ c.loop-i-test.true (le-ltb _ _ c.if-limit-words.true))
 
-add-i : tie.Need-overflow-add-i invariant-loop decreases-loop
+add-i : tie.Need-overflow_add-i invariant-loop decreases-loop
 add-i c = search rules
 
-loop-less : tie.Need-loop-smaller invariant-loop decreases-loop
+loop-less : tie.Need-loop-i-smaller invariant-loop decreases-loop
 loop-less c = search rules
 
-loop-again : tie.Need-loop-preserved invariant-loop decreases-loop
-loop-again c = below_more _ _ c.before.before.before.loop.invariant (lt-ltb _ _ c.if1.false)
+loop-again : tie.Need-loop-i-preserved invariant-loop decreases-loop
+loop-again c = below_more _ _ c.loop-i.invariant (lt-ltb _ _ c.if-limit-words.false)
 
-returns-2 : tie.Need-returns-2 invariant-loop decreases-loop
-returns-2 c = sym (each_passed _ _ 0 _ c.loop-test.false c.before.loop.invariant)
+returns-2 : tie.Need-returns invariant-loop decreases-loop
+returns-2 c = sym (each_passed _ _ 0 _ c.loop-i-test.false c.loop-i.invariant)
 
-pub all-below-spec : {M : Type 1} → statement M
-all-below-spec =
+pub all_below_spec : {M : Type 1} → statement M
+all_below_spec =
     tie.close
     (tie.spec
     invariant-loop

@@ -12,28 +12,28 @@ use Rattle.soundness.proofs.rows.Zeros.{one-is, one-is-not, none_left}
 use Rattle.soundness.proofs.rows.zero_from.Statement.{statement}
 use Rattle.soundness.proofs.rows.zero_from.Tie as tie
 
-abbrev invariant-loop : tie.invariant-loop
+abbrev invariant-loop : tie.invariant-loop-k
 invariant-loop words from zero₀ k₀ zero k = zero && zero_from words k ≡ zero_from words from
 
-abbrev decreases-loop : tie.decreases-loop
+abbrev decreases-loop : tie.decreases-loop-k
 decreases-loop words from zero₀ k₀ zero k = length words - k
 
-loop-holds : tie.Need-loop-init invariant-loop decreases-loop
+loop-holds : tie.Need-loop-k-init invariant-loop decreases-loop
 loop-holds c = refl
 
-loop-again : tie.Need-loop-preserved invariant-loop decreases-loop
+loop-again : tie.Need-loop-k-preserved invariant-loop decreases-loop
 loop-again c =
-    let l = c.before.before.before in
-    let words = l.before.args.words.now in
-    let there = c.before.before.loop-test.true in
-    ⊎_elim (λ u. rw u.1 (one-is-not words _ l.loop.zero _ there (ne_eqb 0 _ (λ e. u.0.taken (sym e))) l.loop.invariant))
-    (λ u. rw u.1 (one-is words _ l.loop.zero _ there (eq-eqb 0 _ (sym u.0.left)) l.loop.invariant)) c.if1.branch
+    let l = c in
+    let words = l.args.words.now in
+    let there = c.loop-k-test.true in
+    ⊎_elim (λ u. rw u.1 (one-is-not words _ l.loop-k.zero _ there (ne_eqb 0 _ (λ e. u.0.taken (sym e))) l.loop-k.invariant))
+    (λ u. rw u.1 (one-is words _ l.loop-k.zero _ there (eq-eqb 0 _ (sym u.0.left)) l.loop-k.invariant)) c.if-words-k-ne0.branch
 
 returns : tie.Need-returns invariant-loop decreases-loop
-returns c = none_left c.before.before.args.words.now _ c.before.loop.zero _ c.loop-test.false c.before.loop.invariant
+returns c = none_left c.args.words.now _ c.loop-k.zero _ c.loop-k-test.false c.loop-k.invariant
 
-pub zero-from-spec : {M : Type 1} → statement M
-zero-from-spec =
+pub zero_from_spec : {M : Type 1} → statement M
+zero_from_spec =
     tie.close
     (tie.spec
     invariant-loop

@@ -12,52 +12,52 @@ use Rattle.soundness.proofs.table_rows.EntryRow.{entry_form, sides, high_count, 
 use Rattle.soundness.proofs.table_rows.entry_row_ok.Statement.{statement}
 use Rattle.soundness.proofs.table_rows.entry_row_ok.Tie as tie
 
-cast-count : tie.Need-overflow-cast-count
+cast-count : tie.Need-overflow_cast-count
 cast-count c =
-    omega (arith, c.shared-slice-known4.given (entry_row_words * c.before.before.before.before.before.before.before.before.before.args.i + 2 + 2))
+    omega (arith, c.shared_slice_known-4-1.given (entry_row_words * c.args.i + 2 + 2))
 
 -- a side that is no term
-returns : tie.Need-returns
+returns : tie.Need-returns-then-not-all_below
 returns c =
-    let s = c.before.before.before.before in
-    rw (sides s.args.entries.now s.args.i s.requires s.args.n, sym c.before.all-below.ensures ∙ not-true _ c.if1.true, and-false)
+    let s = c in
+    rw (sides s.args.entries.now s.args.i s.requires s.args.n, sym c.all_below.ensures ∙ not-true _ c.if-not-all_below.true-raw, and-false)
 
 -- both sides are terms: what is left to test
-form : (c : tie.Else1) →
-    let a = c.before.before.before.before.args in entry_form a.entries.now a.i ≡ entry_row_ok a.entries.now a.n a.i
+form : (c : tie.Else-not-all_below) →
+    let a = c.args in entry_form a.entries.now a.i ≡ entry_row_ok a.entries.now a.n a.i
 form c =
-    let s = c.before.before.before.before in
-    rw (sides s.args.entries.now s.args.i s.requires s.args.n, sym c.before.all-below.ensures ∙ not-false _ c.if1.false, and-true)
+    let s = c in
+    rw (sides s.args.entries.now s.args.i s.requires s.args.n, sym c.all_below.ensures ∙ not-false _ c.if-not-all_below.false-raw, and-true)
 
 -- a hole
-returns-2 : tie.Need-returns-2
+returns-2 : tie.Need-returns-then-entries-kind-eq0
 returns-2 c =
-    let known = c.before.before.before.before in
-    c.all-below2.ensures ∙ zeros-below-one _ ∙ sym (hole-row _ _ known.before.before.before.before.requires c.before.before.if2.true) ∙ form known
+    let known = c in
+    c.all_below-then-entries-kind-eq0.ensures ∙ zeros-below-one _ ∙ sym (hole-row _ _ known.requires c.if-entries-kind-eq0.true) ∙ form known.before.before.before.before
 
 -- a kind above 1, and a count above its limit
-returns-3 : tie.Need-returns-3
+returns-3 : tie.Need-returns-then-entries-kind-ne1
 returns-3 c =
-    let known = c.before.before.before.before in
-    sym (high_kind _ _ known.before.before.before.before.requires c.before.before.if2.false c.if3.true) ∙ form known
+    let known = c in
+    sym (high_kind _ _ known.requires c.if-entries-kind-eq0.false c.if-entries-kind-ne1.true) ∙ form known.before.before.before.before
 
-returns-4 : tie.Need-returns-4
+returns-4 : tie.Need-returns-then-count-gt-MAX_ARITY
 returns-4 c =
-    let known = c.before.before.before.before.before.before in
-    sym (high_count _ _ known.before.before.before.before.requires c.if4.true) ∙ form known
+    let known = c in
+    sym (high_count _ _ known.requires c.if-count-gt-MAX_ARITY.true) ∙ form known.before.before.before.before.before.before
 
 -- a common entry
-returns-5 : tie.Need-returns-5
+returns-5 : tie.Need-returns
 returns-5 c =
-    let kind = c.before.before.before.before in
-    let known = kind.before.before.before.before in
-    c.all-below3.ensures
+    let kind = c in
+    let known = kind in
+    c.all_below-2.ensures
     ∙ zeros-below-one _
-    ∙ sym (common-row _ _ known.before.before.before.before.requires kind.if3.false c.before.before.if4.false)
-    ∙ form known
+    ∙ sym (common-row _ _ known.requires kind.if-entries-kind-ne1.false c.if-count-gt-MAX_ARITY.false)
+    ∙ form known.before.before.before.before.before.before.before.before
 
-pub entry-row-ok-spec : {M : Type 1} → statement M
-entry-row-ok-spec =
+pub entry_row_ok_spec : {M : Type 1} → statement M
+entry_row_ok_spec =
     tie.close
     (tie.spec
     (λ c. search rules)

@@ -8,24 +8,24 @@ use Rattle.soundness.specs.rows.RowTests.{lines_ok}
 use Rattle.soundness.proofs.table_rows.lines_ok.Statement.{statement}
 use Rattle.soundness.proofs.table_rows.lines_ok.Tie as tie
 
-slice-aggregate-all-below : tie.Need-slice-aggregate-all-below
-slice-aggregate-all-below c = sym (length-take-le _ _ c.before.before.requires)
+slice-aggregate-all-below : tie.Need-slice_bounds-all_below-end
+slice-aggregate-all-below c = sym (length-take-le _ _ c.requires)
 
-all-below-requires : tie.Need-all-below-requires
+all-below-requires : tie.Need-all_below-requires
 all-below-requires c κs = search rules
 
-returns : tie.Need-returns
+returns : tie.Need-returns-then-not-all_below
 unfolding lines_ok
-returns c = rw (sym c.before.all-below.ensures ∙ not-true _ c.if1.true)
+returns c = rw (sym c.all_below.ensures ∙ not-true _ c.if-not-all_below.true-raw)
 
-zero-from-requires : tie.Need-zero-from-requires
+zero-from-requires : tie.Need-zero_from-requires
 zero-from-requires c κs = search rules
 
-returns-2 : tie.Need-returns-2
+returns-2 : tie.Need-returns
 unfolding lines_ok
-returns-2 c = rw (sym c.before.before.all-below.ensures ∙ not-false _ c.before.if1.false) c.zero-from.ensures
+returns-2 c = rw (sym c.all_below.ensures ∙ not-false _ c.if-not-all_below.false-raw) c.zero_from.ensures
 
-pub lines-ok-spec : {M : Type 1} → statement M
-lines-ok-spec =
+pub lines_ok_spec : {M : Type 1} → statement M
+lines_ok_spec =
     tie.close
     (tie.spec slice-aggregate-all-below all-below-requires returns zero-from-requires returns-2)

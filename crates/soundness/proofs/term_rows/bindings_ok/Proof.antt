@@ -18,35 +18,35 @@ use Rattle.soundness.proofs.term_rows.bindings_ok.Tie as tie
 abbrev one : List ℕ → List ℕ → ℕ → ℕ → Bool
 one rows bindings n t = binding_ok (book_of rows n) (node_of rows t) (binding_of bindings t)
 
-abbrev invariant-loop : tie.invariant-loop
+abbrev invariant-loop : tie.invariant-loop-t
 invariant-loop rows bindings n t₀ t = Passed (one rows bindings n) t
 
-abbrev decreases-loop : tie.decreases-loop
+abbrev decreases-loop : tie.decreases-loop-t
 decreases-loop rows bindings n t₀ t = n - t
 
-loop-holds : tie.Need-loop-init invariant-loop decreases-loop
+loop-holds : tie.Need-loop-t-init invariant-loop decreases-loop
 loop-holds c = below_none _
 
-returns : tie.Need-returns invariant-loop decreases-loop
+returns : tie.Need-returns-then-not-binding_ok invariant-loop decreases-loop
 unfolding bindings_ok
 returns c =
-    let a = c.before.before.before.before.before.before.args in
-    rw (all_broken (one a.rows.now a.bindings.now a.n) a.n _ c.before.before.loop-test.true
-    (sym c.before.binding-ok.ensures ∙ not-true _ c.if1.true))
+    let a = c.args in
+    rw (all_broken (one a.rows.now a.bindings.now a.n) a.n _ c.loop-t-test.true
+    (sym c.binding_ok.ensures ∙ not-true _ c.if-not-binding_ok.true-raw))
 
-loop-again : tie.Need-loop-preserved invariant-loop decreases-loop
+loop-again : tie.Need-loop-t-preserved invariant-loop decreases-loop
 loop-again c =
-    below_more _ _ c.before.before.before.loop.invariant (sym c.before.binding-ok.ensures ∙ not-false _ c.if1.false)
+    below_more _ _ c.loop-t.invariant (sym c.binding_ok.ensures ∙ not-false _ c.if-not-binding_ok.false-raw)
 
-returns-2 : tie.Need-returns-2 invariant-loop decreases-loop
+returns-2 : tie.Need-returns invariant-loop decreases-loop
 unfolding bindings_ok
 returns-2 c =
-    let a = c.before.before.before.before.before.args in
-    rw (all_passed (one a.rows.now a.bindings.now a.n) a.n _ c.before.loop-test.false c.before.before.loop.invariant)
-    c.zero-from.ensures
+    let a = c.args in
+    rw (all_passed (one a.rows.now a.bindings.now a.n) a.n _ c.loop-t-test.false c.loop-t.invariant)
+    c.zero_from.ensures
 
-pub bindings-ok-spec : {M : Type 1} → statement M
-bindings-ok-spec =
+pub bindings_ok_spec : {M : Type 1} → statement M
+bindings_ok_spec =
     tie.close
     (tie.spec
     invariant-loop

@@ -10,34 +10,34 @@ use Rattle.soundness.proofs.rows.Loops.{Passed, all_passed, all_broken}
 use Rattle.soundness.proofs.term_rows.term_rows_ok.Statement.{statement}
 use Rattle.soundness.proofs.term_rows.term_rows_ok.Tie as tie
 
-abbrev invariant-loop : tie.invariant-loop
+abbrev invariant-loop : tie.invariant-loop-t
 invariant-loop rows n t₀ t = Passed (term_row_ok rows) t
 
-abbrev decreases-loop : tie.decreases-loop
+abbrev decreases-loop : tie.decreases-loop-t
 decreases-loop rows n t₀ t = n - t
 
-loop-holds : tie.Need-loop-init invariant-loop decreases-loop
+loop-holds : tie.Need-loop-t-init invariant-loop decreases-loop
 loop-holds c = below_none _
 
-returns : tie.Need-returns invariant-loop decreases-loop
+returns : tie.Need-returns-then-not-term_row_ok invariant-loop decreases-loop
 unfolding term_rows_ok
 returns c =
-    let a = c.before.before.before.before.before.args in
-    rw (all_broken (term_row_ok a.rows.now) a.n _ c.before.before.loop-test.true
-    (sym c.before.term-row-ok.ensures ∙ not-true _ c.if1.true))
+    let a = c.args in
+    rw (all_broken (term_row_ok a.rows.now) a.n _ c.loop-t-test.true
+    (sym c.term_row_ok.ensures ∙ not-true _ c.if-not-term_row_ok.true-raw))
 
-loop-again : tie.Need-loop-preserved invariant-loop decreases-loop
+loop-again : tie.Need-loop-t-preserved invariant-loop decreases-loop
 loop-again c =
-    below_more _ _ c.before.before.before.loop.invariant (sym c.before.term-row-ok.ensures ∙ not-false _ c.if1.false)
+    below_more _ _ c.loop-t.invariant (sym c.term_row_ok.ensures ∙ not-false _ c.if-not-term_row_ok.false-raw)
 
-returns-2 : tie.Need-returns-2 invariant-loop decreases-loop
+returns-2 : tie.Need-returns invariant-loop decreases-loop
 unfolding term_rows_ok
 returns-2 c =
-    let a = c.before.before.before.before.args in
-    rw (all_passed (term_row_ok a.rows.now) a.n _ c.before.loop-test.false c.before.before.loop.invariant) c.zero-from.ensures
+    let a = c.args in
+    rw (all_passed (term_row_ok a.rows.now) a.n _ c.loop-t-test.false c.loop-t.invariant) c.zero_from.ensures
 
-pub term-rows-ok-spec : {M : Type 1} → statement M
-term-rows-ok-spec =
+pub term_rows_ok_spec : {M : Type 1} → statement M
+term_rows_ok_spec =
     tie.close
     (tie.spec
     invariant-loop

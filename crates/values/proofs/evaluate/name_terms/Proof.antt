@@ -11,41 +11,41 @@ use Rattle.values.proofs.evaluate.name_terms.Statement.{statement}
 use Rattle.values.proofs.evaluate.name_terms.Tie as tie
 
 -- past the walk the terms are listed
-all_listed : (e : tie.Else1) →
-    let o = e.before.before.before.before.before in
-    let s = o.before.before.before.before.before.before.before.before.before.before.before in
-    Listed s.args.rows.now s.args.bindings.now o.order.new.1.1.1.1.0 s.args.n
+all_listed : (e : tie.Else-not-order) →
+    let o = e in
+    let s = o in
+    Listed s.args.rows.now s.args.bindings.now o.order.new.list s.args.n
 all_listed e =
-    let o = e.before.before.before.before.before in
-    let s = o.before.before.before.before.before.before.before.before.before.before.before in
-    listed s.requires.0 o.order.ensures.0 o.order.ensures.1 (not-false _ e.if1.false)
+    let o = e in
+    let s = o in
+    listed s.requires.0 o.order.ensures.0 o.order.ensures.1 (not-false _ e.if-not-order.false-raw)
 
-returns : tie.Need-returns
-returns c = (sym (not-true _ c.if1.true) ∙ c.before.before.before.before.before.order.ensures.0, λ h. absurd (true_T _ h))
+returns : tie.Need-returns-then-not-order
+returns c = (sym (not-true _ c.if-not-order.true-raw) ∙ c.order.ensures.0, λ h. absurd (true_T _ h))
 
 names-requires : tie.Need-names-requires
 names-requires c κs =
-    let e = c.before.before.before.before.before.before in
-    let o = e.before.before.before.before.before in
-    let room = o.before.before.before.before.before.before.before.before.before.before.before.requires.1 in
-    (all_listed e, (scratch_kept room.scratch refl refl refl o.order.auto.1.1.1.0, room.names_fit))
+    let e = c in
+    let o = e in
+    let room = o.requires.1 in
+    (all_listed e.before.before.before.before.before, (scratch_kept room.scratch refl refl refl o.order.auto.marks, room.names_fit))
 
 roots-requires : tie.Need-roots-requires
 roots-requires c κs =
-    let n = c.before.before.before.before.before.before.before.before.before.before.before.before in
-    let e = n.before.before.before.before.before.before.before in
-    let o = e.before.before.before.before.before in
-    (all_listed e, rw (n.names.auto.1.1.1.0 ∙ o.order.auto.1.1.1.0) o.before.before.before.before.before.before.before.before.before.before.before.requires.1.scratch.classes_fit)
+    let n = c in
+    let e = n in
+    let o = e in
+    (all_listed e.before.before.before.before.before.before.before.before.before.before.before.before.before.before.before.before.before, rw (n.names.auto.classes ∙ o.order.auto.marks) o.requires.1.scratch.classes_fit)
 
-returns-2 : tie.Need-returns-2
+returns-2 : tie.Need-returns
 returns-2 c =
-    let r = c.before.before in
-    let n = r.before.before.before.before.before.before.before.before.before.before.before.before.before in
-    let e = n.before.before.before.before.before.before.before in
-    (sym (not-false _ e.if1.false) ∙ e.before.before.before.before.before.order.ensures.0, λ h. valued (all_listed e) _ _ _ _ r.roots3.ensures n.names.ensures)
+    let r = c in
+    let n = r in
+    let e = n in
+    (sym (not-false _ e.if-not-order.false-raw) ∙ e.order.ensures.0, λ h. valued (all_listed e.before.before.before.before.before.before.before.before.before.before.before.before.before.before.before.before.before.before.before.before) _ _ _ _ r.roots.ensures n.names.ensures)
 
-pub name-terms-spec : {M : Type 1} → statement M
-name-terms-spec =
+pub name_terms_spec : {M : Type 1} → statement M
+name_terms_spec =
     tie.close
     (tie.spec
     (λ c κs. search rules)

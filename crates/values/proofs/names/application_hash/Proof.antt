@@ -12,51 +12,51 @@ use Rattle.values.proofs.names.Keys.{hash_more, hash_none}
 use Rattle.values.proofs.names.application_hash.Statement.{statement}
 use Rattle.values.proofs.names.application_hash.Tie as tie
 
-abbrev invariant-loop : tie.invariant-loop
+abbrev invariant-loop : tie.invariant-loop-j
 invariant-loop symbol args classes h₀ j₀ h j = hash_from h (map (at classes) (drop j args)) ≡ hash_from symbol (map (at classes) args)
 
-abbrev decreases-loop : tie.decreases-loop
+abbrev decreases-loop : tie.decreases-loop-j
 decreases-loop symbol args classes h₀ j₀ h j = length args - j
 
-loop-holds : tie.Need-loop-init invariant-loop decreases-loop
+loop-holds : tie.Need-loop-j-init invariant-loop decreases-loop
 loop-holds c = refl
 
-mul-a : tie.Need-overflow-mul-a invariant-loop decreases-loop
+mul-a : tie.Need-offset_bounds-args-j invariant-loop decreases-loop
 mul-a c = omega arith
 
-shared-slice-read-a : tie.Need-shared-slice-read-a invariant-loop decreases-loop
+shared-slice-read-a : tie.Need-bounds-args-j invariant-loop decreases-loop
 shared-slice-read-a c = omega arith
 
-cast-a : tie.Need-overflow-cast-a invariant-loop decreases-loop
-cast-a c = omega (arith, c.shared-slice-known3.given c.before.before.loop.j)
+cast-a : tie.Need-overflow_cast-a invariant-loop decreases-loop
+cast-a c = omega (arith, c.shared_slice_known-in-loop-j-1.given c.loop-j.j)
 
-mul-mix : tie.Need-overflow-mul-mix invariant-loop decreases-loop
-mul-mix c = omega (arith, c.shared-slice-known3.given c.before.before.loop.j)
+mul-mix : tie.Need-offset_bounds-classes-a invariant-loop decreases-loop
+mul-mix c = omega (arith, c.shared_slice_known-in-loop-j-1.given c.loop-j.j)
 
-shared-slice-read-mix : tie.Need-shared-slice-read-mix invariant-loop decreases-loop
-shared-slice-read-mix c = c.before.before.before.before.before.before.requires c.before.before.before.loop.j c.before.before.loop-test.true
+shared-slice-read-mix : tie.Need-bounds-classes-a invariant-loop decreases-loop
+shared-slice-read-mix c = c.requires c.loop-j.j c.loop-j-test.true
 
-mix-requires : tie.Need-mix-requires invariant-loop decreases-loop
+mix-requires : tie.Need-mix-h-requires invariant-loop decreases-loop
 mix-requires c κs = search rules
 
-add-j : tie.Need-overflow-add-j invariant-loop decreases-loop
+add-j : tie.Need-overflow_add-j invariant-loop decreases-loop
 add-j c = omega arith
 
-loop-less : tie.Need-loop-smaller invariant-loop decreases-loop
+loop-less : tie.Need-loop-j-smaller invariant-loop decreases-loop
 loop-less c = omega arith
 
-loop-again : tie.Need-loop-preserved invariant-loop decreases-loop
+loop-again : tie.Need-loop-j-preserved invariant-loop decreases-loop
 loop-again c =
-    let classes = c.before.before.before.before.before.before.before.args.classes.now in
-    let args = c.before.before.before.before.before.before.before.args.args.now in
-    ap (λ (h : ℕ). hash_from h (map (at classes) (drop (c.before.before.before.before.loop.j + 1) args))) c.mix.ensures
-    ∙ (sym (hash_more (at classes) args c.before.before.before.before.loop.h c.before.before.before.before.loop.j c.before.before.before.loop-test.true) ∙ c.before.before.before.before.loop.invariant)
+    let classes = c.args.classes.now in
+    let args = c.args.args.now in
+    ap (λ (h : ℕ). hash_from h (map (at classes) (drop (c.loop-j.j + 1) args))) c.mix-h.ensures
+    ∙ (sym (hash_more (at classes) args c.loop-j.h c.loop-j.j c.loop-j-test.true) ∙ c.loop-j.invariant)
 
 returns : tie.Need-returns invariant-loop decreases-loop
-returns c = sym (hash_none (at c.before.before.before.before.args.classes.now) _ _ _ c.loop-test.false) ∙ c.before.loop.invariant
+returns c = sym (hash_none (at c.args.classes.now) _ _ _ c.loop-j-test.false) ∙ c.loop-j.invariant
 
-pub application-hash-spec : {M : Type 1} → statement M
-application-hash-spec =
+pub application_hash_spec : {M : Type 1} → statement M
+application_hash_spec =
     tie.close
     (tie.spec
     invariant-loop

@@ -7,74 +7,74 @@ use Rattle.values.proofs.names.ClassOf.{t_lt, t_readable, earlier_rows, earlier_
 use Rattle.values.proofs.names.class_of.Statement.{statement}
 use Rattle.values.proofs.names.class_of.Tie as tie
 
-mul-t : tie.Need-overflow-mul-t
-mul-t c = omega (arith, list-fits c.before.before.before.before.requires.listed, c.before.before.before.before.requires.within)
+mul-t : tie.Need-offset_bounds-list-k
+mul-t c = omega (arith, list-fits c.requires.listed, c.requires.within)
 
-shared-slice-read-t : tie.Need-shared-slice-read-t
-shared-slice-read-t c = omega (arith, list-fits c.before.before.before.before.before.requires.listed, c.before.before.before.before.before.requires.within)
+shared-slice-read-t : tie.Need-bounds-list-k
+shared-slice-read-t c = omega (arith, list-fits c.requires.listed, c.requires.within)
 
-cast-i : tie.Need-overflow-cast-i
-cast-i c = omega (arith, t_lt c.before.before.before.before.before.requires)
+cast-i : tie.Need-overflow_cast-i
+cast-i c = omega (arith, t_lt c.requires)
 
-mul-if1 : tie.Need-overflow-mul-if1
-mul-if1 c = omega (arith, (t_readable c.before.before.before.before.before.requires).row_fits)
+mul-if1 : tie.Need-overflow_mul-i
+mul-if1 c = omega (arith, (t_readable c.requires).row_fits)
 
-mul-if1-2 : tie.Need-overflow-mul-if1-2
-mul-if1-2 c = omega (arith, (t_readable c.before.before.before.before.before.requires).row_fits)
+mul-if1-2 : tie.Need-offset_bounds-rows-i
+mul-if1-2 c = omega (arith, (t_readable c.requires).row_fits)
 
-shared-slice-read-if1 : tie.Need-shared-slice-read-if1
-shared-slice-read-if1 c = omega (arith, (t_readable c.before.before.before.before.before.before.requires).row_fits)
+shared-slice-read-if1 : tie.Need-bounds-rows-i
+shared-slice-read-if1 c = omega (arith, (t_readable c.requires).row_fits)
 
-earlier-requires : tie.Need-earlier-requires
-earlier-requires c κs = (earlier_rows c.before.before.before.before.before.before.before.requires, (c.if1.true, earlier_place c.before.before.before.before.before.before.before.requires))
+earlier-requires : tie.Need-earlier-j-requires
+earlier-requires c κs = (earlier_rows c.requires, (c.if-rows-i-ne0.true, earlier_place c.requires))
 
-returns : tie.Need-returns
-returns c = class-new c.before.before.before.before.before.before.before.before.before.requires c.before.before.if1.true c.before.earlier.ensures c.if2.true
+returns : tie.Need-returns-then-j-k
+returns c = class-new c.requires c.if-rows-i-ne0.true c.earlier-j.ensures c.if-j-k.true
 
-mul-u : tie.Need-overflow-mul-u
-mul-u c = omega (arith, (old-place c.before.before.before.before.before.before.before.before.before.requires c.before.before.if1.true c.before.earlier.ensures c.if2.false).1)
+mul-u : tie.Need-offset_bounds-list-j
+mul-u c = omega (arith, (old-place c.requires c.if-rows-i-ne0.true c.earlier-j.ensures c.if-j-k.false).1)
 
-shared-slice-read-u : tie.Need-shared-slice-read-u
-shared-slice-read-u c = (old-place c.before.before.before.before.before.before.before.before.before.before.requires c.before.before.before.if1.true c.before.before.earlier.ensures c.before.if2.false).1
+shared-slice-read-u : tie.Need-bounds-list-j
+shared-slice-read-u c = (old-place c.requires c.if-rows-i-ne0.true c.earlier-j.ensures c.if-j-k.false).1
 
-cast-u : tie.Need-overflow-cast-u
-cast-u c = omega (arith, (old-place c.before.before.before.before.before.before.before.before.before.before.requires c.before.before.before.if1.true c.before.before.earlier.ensures c.before.if2.false).2)
+cast-u : tie.Need-overflow_cast-u
+cast-u c = omega (arith, (old-place c.requires c.if-rows-i-ne0.true c.earlier-j.ensures c.if-j-k.false).2)
 
-mul-result : tie.Need-overflow-mul-result
-mul-result c = omega (arith, (old-place c.before.before.before.before.before.before.before.before.before.before.requires c.before.before.before.if1.true c.before.before.earlier.ensures c.before.if2.false).2)
+mul-result : tie.Need-offset_bounds-classes-u
+mul-result c = omega (arith, (old-place c.requires c.if-rows-i-ne0.true c.earlier-j.ensures c.if-j-k.false).2)
 
-shared-slice-read-result : tie.Need-shared-slice-read-result
-shared-slice-read-result c = (old-place c.before.before.before.before.before.before.before.before.before.before.before.requires c.before.before.before.before.if1.true c.before.before.before.earlier.ensures c.before.before.if2.false).2
+shared-slice-read-result : tie.Need-bounds-classes-u
+shared-slice-read-result c = (old-place c.requires c.if-rows-i-ne0.true c.earlier-j.ensures c.if-j-k.false).2
 
-returns-2 : tie.Need-returns-2
-returns-2 c = class-old c.before.before.before.before.before.before.before.before.before.before.before.requires c.before.before.before.before.if1.true c.before.before.before.earlier.ensures c.before.before.if2.false
+returns-2 : tie.Need-returns-then-rows-i-ne0
+returns-2 c = class-old c.requires c.if-rows-i-ne0.true c.earlier-j.ensures c.if-j-k.false
 
-mul-bound : tie.Need-overflow-mul-bound
-mul-bound c = omega (arith, (t_readable c.before.before.before.before.before.before.before.requires).word_fits)
+mul-bound : tie.Need-offset_bounds-bindings-i
+mul-bound c = omega (arith, (t_readable c.requires).word_fits)
 
-shared-slice-read-bound : tie.Need-shared-slice-read-bound
-shared-slice-read-bound c = (t_readable c.before.before.before.before.before.before.before.before.requires).word_fits
+shared-slice-read-bound : tie.Need-bounds-bindings-i
+shared-slice-read-bound c = (t_readable c.requires).word_fits
 
-returns-3 : tie.Need-returns-3
-returns-3 c = class-free c.before.before.before.before.before.before.before.before.before.requires c.before.before.if1.false c.if3.true
+returns-3 : tie.Need-returns-then-bound-eq0
+returns-3 c = class-free c.requires c.if-rows-i-ne0.false c.if-bound-eq0.true
 
-sub-result : tie.Need-overflow-sub-result
+sub-result : tie.Need-overflow_sub-result
 sub-result c = search rules
 
-cast-result : tie.Need-overflow-cast-result
-cast-result c = omega (arith, bound-below _ _ _ _ (t_readable c.before.before.before.before.before.before.before.before.before.requires) c.before.before.if1.false c.if3.false)
+cast-result : tie.Need-overflow_cast-result
+cast-result c = omega (arith, bound-below _ _ _ _ (t_readable c.requires) c.if-rows-i-ne0.false c.if-bound-eq0.false)
 
-mul-result-2 : tie.Need-overflow-mul-result-2
-mul-result-2 c = omega (arith, bound-below _ _ _ _ (t_readable c.before.before.before.before.before.before.before.before.before.requires) c.before.before.if1.false c.if3.false)
+mul-result-2 : tie.Need-offset_bounds-classes-bound
+mul-result-2 c = omega (arith, bound-below _ _ _ _ (t_readable c.requires) c.if-rows-i-ne0.false c.if-bound-eq0.false)
 
-shared-slice-read-result-2 : tie.Need-shared-slice-read-result-2
-shared-slice-read-result-2 c = bound-below _ _ _ _ (t_readable c.before.before.before.before.before.before.before.before.before.before.requires) c.before.before.before.if1.false c.before.if3.false
+shared-slice-read-result-2 : tie.Need-bounds-classes-bound
+shared-slice-read-result-2 c = bound-below _ _ _ _ (t_readable c.requires) c.if-rows-i-ne0.false c.if-bound-eq0.false
 
-returns-4 : tie.Need-returns-4
-returns-4 c = class-bound c.before.before.before.before.before.before.before.before.before.before.requires c.before.before.before.if1.false c.before.if3.false
+returns-4 : tie.Need-returns
+returns-4 c = class-bound c.requires c.if-rows-i-ne0.false c.if-bound-eq0.false
 
-pub class-of-spec : {M : Type 1} → statement M
-class-of-spec =
+pub class_of_spec : {M : Type 1} → statement M
+class_of_spec =
     tie.close
     (tie.spec
     mul-t

@@ -9,86 +9,79 @@ use Rattle.values.proofs.names.Classifying.{Classifying, classifying_none, next_
 use Rattle.values.proofs.names.classify.Statement.{statement}
 use Rattle.values.proofs.names.classify.Tie as tie
 
-abbrev invariant-loop : tie.invariant-loop
+abbrev invariant-loop : tie.invariant-loop-k
 invariant-loop rows bindings n classes₀ list lefts₀ rights₀ cells₀ k₀ classes lefts rights cells k =
     Classifying rows bindings list n classes₀ lefts₀ rights₀ cells₀ classes lefts rights cells k
 
-abbrev decreases-loop : tie.decreases-loop
+abbrev decreases-loop : tie.decreases-loop-k
 decreases-loop rows bindings n classes₀ list lefts₀ rights₀ cells₀ k₀ classes lefts rights cells k = n - k
 
--- the pair pushed from the turn's end, and the loop's test from there
-abbrev pushed : tie.After-class-of invariant-loop decreases-loop → tie.After-push invariant-loop decreases-loop
-pushed c = c.before.before.before.before.before.before.before.before
-
-abbrev turn : tie.After-push invariant-loop decreases-loop → tie.In-loop invariant-loop decreases-loop
-turn c = c.before.before.before.before.before.before.before
-
 clear-requires : tie.Need-clear-requires invariant-loop decreases-loop
-clear-requires c κs = omega (arith, c.before.before.before.before.before.before.before.before.requires.0.room.cells_fit)
+clear-requires c κs = omega (arith, c.requires.0.room.cells_fit)
 
-loop-holds : tie.Need-loop-init invariant-loop decreases-loop
-loop-holds c = let pre = c.before.before.before.before.before.before.before.before.before.before.before.requires in classifying_none pre.1 pre.0 c.before.before.clear.ensures c.before.before.clear.auto.0
+loop-holds : tie.Need-loop-k-init invariant-loop decreases-loop
+loop-holds c = let pre = c.requires in classifying_none pre.1 pre.0 c.clear.ensures c.clear.auto.words
 
-mul-t : tie.Need-overflow-mul-t invariant-loop decreases-loop
+mul-t : tie.Need-offset_bounds-list-k invariant-loop decreases-loop
 mul-t c = omega arith
 
-shared-slice-read-t : tie.Need-shared-slice-read-t invariant-loop decreases-loop
-shared-slice-read-t c = (next_fits c.before.before.loop.invariant.filled c.before.loop-test.true).0
+shared-slice-read-t : tie.Need-bounds-list-k invariant-loop decreases-loop
+shared-slice-read-t c = (next_fits c.loop-k.invariant.filled c.loop-k-test.true).0
 
-key-hash-requires : tie.Need-key-hash-requires invariant-loop decreases-loop
-key-hash-requires c κs = next_row c.before.before.before.loop.invariant c.before.before.loop-test.true
+key-hash-requires : tie.Need-key_hash-h-requires invariant-loop decreases-loop
+key-hash-requires c κs = next_row c.loop-k.invariant c.loop-k-test.true
 
-cast-high : tie.Need-overflow-cast-high invariant-loop decreases-loop
-cast-high c = record { fits = (halves c.key-hash.result (omega arith)).1 }
+cast-high : tie.Need-overflow_cast-high invariant-loop decreases-loop
+cast-high c = record { fits = (halves c.key_hash-h.result (omega arith)).1 }
 
-cast-low : tie.Need-overflow-cast-low invariant-loop decreases-loop
-cast-low c = record { fits = (halves c.key-hash.result (omega arith)).0 }
+cast-low : tie.Need-overflow_cast-low invariant-loop decreases-loop
+cast-low c = record { fits = (halves c.key_hash-h.result (omega arith)).0 }
 
-push-requires : tie.Need-push-requires invariant-loop decreases-loop
-push-requires c κs = (c.before.before.before.before.before.before.before.loop.invariant.indexed, next-room c.before.before.before.before.before.before.before.loop.invariant c.before.before.before.before.before.before.loop-test.true)
+push-requires : tie.Need-push-place-requires invariant-loop decreases-loop
+push-requires c κs = (c.loop-k.invariant.indexed, next-room c.loop-k.invariant c.loop-k-test.true)
 
-class-of-requires : tie.Need-class-of-requires invariant-loop decreases-loop
+class-of-requires : tie.Need-class_of-class-requires invariant-loop decreases-loop
 class-of-requires c κs =
-    let call = c.before.before.before.before.before.before.before in
-    next_classable (turn call).before.loop.invariant (turn call).loop-test.true c.before.before.before.before.before.before.before.before.before.before.before.key-hash.ensures call.push.ensures
+    let call = c in
+    next_classable call.loop-k.invariant call.loop-k-test.true c.key_hash-h.ensures call.push-place.ensures
 
-cast-classes : tie.Need-overflow-cast-classes invariant-loop decreases-loop
-cast-classes c = omega (arith, next-term (turn (pushed c)).before.loop.inv.filled (turn (pushed c)).loop-test.taken)
+cast-classes : tie.Need-overflow_cast-classes invariant-loop decreases-loop
+cast-classes c = omega (arith, next-term c.loop-k.invariant.filled c.loop-k-test.true)
 
-mul-classes : tie.Need-overflow-mul-classes invariant-loop decreases-loop
-mul-classes c = omega (arith, next-term (turn (pushed c)).before.loop.inv.filled (turn (pushed c)).loop-test.taken)
+mul-classes : tie.Need-offset_bounds-classes-t invariant-loop decreases-loop
+mul-classes c = omega (arith, next-term c.loop-k.invariant.filled c.loop-k-test.true)
 
-slice-write-classes : tie.Need-slice-write-classes invariant-loop decreases-loop
-slice-write-classes c = (next_fits (turn (pushed c)).before.loop.inv.filled (turn (pushed c)).loop-test.taken).1
+slice-write-classes : tie.Need-bounds-classes-t invariant-loop decreases-loop
+slice-write-classes c = (next_fits c.loop-k.invariant.filled c.loop-k-test.true).1
 
-add-k : tie.Need-overflow-add-k invariant-loop decreases-loop
-add-k c = omega (arith, (turn (pushed c)).loop-test.taken)
+add-k : tie.Need-overflow_add-k invariant-loop decreases-loop
+add-k c = omega (arith, c.loop-k-test.true)
 
-loop-less : tie.Need-loop-smaller invariant-loop decreases-loop
-loop-less c = omega (arith, (turn (pushed c)).loop-test.taken)
+loop-less : tie.Need-loop-k-smaller invariant-loop decreases-loop
+loop-less c = omega (arith, c.loop-k-test.true)
 
-loop-again : tie.Need-loop-preserved invariant-loop decreases-loop
+loop-again : tie.Need-loop-k-preserved invariant-loop decreases-loop
 loop-again c =
-    let call = pushed c in
-    classifying_more (turn call).before.loop.inv (turn call).loop-test.taken c.before.before.before.before.before.before.before.before.before.before.before.before.key-hash.ensures call.push.ensures call.push.kept.1.1.0 c.class_of.ensures
+    let call = c in
+    classifying_more call.loop-k.invariant call.loop-k-test.true c.key_hash-h.ensures call.push-place.ensures call.push-place.auto.cells c.class_of-class.ensures
 
-same_length : tie.Need-same-length invariant-loop decreases-loop
-same_length c = c.before.loop.invariant.filled.size
+same_length : tie.Need-shape_of-classes invariant-loop decreases-loop
+same_length c = c.loop-k.invariant.filled.size
 
-same-length-2 : tie.Need-same-length-2 invariant-loop decreases-loop
-same-length-2 c = c.before.loop.invariant.left_size
+same-length-2 : tie.Need-shape_of-lefts invariant-loop decreases-loop
+same-length-2 c = c.loop-k.invariant.left_size
 
-same-length-3 : tie.Need-same-length-3 invariant-loop decreases-loop
-same-length-3 c = c.before.loop.invariant.right_size
+same-length-3 : tie.Need-shape_of-rights invariant-loop decreases-loop
+same-length-3 c = c.loop-k.invariant.right_size
 
-same-length-4 : tie.Need-same-length-4 invariant-loop decreases-loop
-same-length-4 c = c.before.loop.invariant.cells_size ∙ c.before.before.before.before.clear.auto.0
+same-length-4 : tie.Need-shape_of-cells invariant-loop decreases-loop
+same-length-4 c = c.loop-k.invariant.cells_size ∙ c.clear.auto.words
 
 returns : tie.Need-returns invariant-loop decreases-loop
-returns c = classified c.before.loop.invariant c.loop-test.false
+returns c = classified c.loop-k.invariant c.loop-k-test.false
 
-pub classify-spec : {M : Type 1} → statement M
-classify-spec =
+pub classify_spec : {M : Type 1} → statement M
+classify_spec =
     tie.close
     (tie.spec
     invariant-loop

@@ -5,42 +5,35 @@ use Rattle.values.proofs.names.Lowest.{names_found, counted}
 use Rattle.values.proofs.names.names.Statement.{statement}
 use Rattle.values.proofs.names.names.Tie as tie
 
--- the first call from the second, and the second from the end
-abbrev classified : tie.After-lowest-of-class-arg3 → tie.After-classify
-classified c = c.before.before.before.before.before.before.before.before.before.before.before
-
-abbrev named : tie.After-slice-known11 → tie.After-lowest-of-class
-named c = c.before.before.before.before
-
 classify-requires : tie.Need-classify-requires
-classify-requires c κs = let pre = c.before.before.before.before.before.before.before.before.before.before.before.before.requires in (pre.1.0, pre.0)
+classify-requires c κs = let pre = c.requires in (pre.1.0, pre.0)
 
-lowest-of-class-requires : tie.Need-lowest-of-class-requires
+lowest-of-class-requires : tie.Need-lowest_of_class-requires
 lowest-of-class-requires c κs =
-    let call = (classified c).classify in
-    let pre = (classified c).before.before.before.before.before.before.before.before.before.before.before.before.before.requires in
-    counted pre.1.0 pre.1.1 call.ensures call.kept.1.1.1.1.1.0 call.kept.1.1.1.0
+    let call = c.classify in
+    let pre = c.requires in
+    counted pre.1.0 pre.1.1 call.ensures call.auto.lefts call.auto.classes
 
-same_length : tie.Need-same-length
-same_length c = (classified (named c).before).classify.auto.1.1.1.0
+same_length : tie.Need-shape_of-classes
+same_length c = c.classify.auto.classes
 
-same-length-2 : tie.Need-same-length-2
-same-length-2 c = (named c).lowest-of-class.auto.1.1.0
+same-length-2 : tie.Need-shape_of-names
+same-length-2 c = c.lowest_of_class.auto.names
 
-same-length-3 : tie.Need-same-length-3
-same-length-3 c = (named c).lowest-of-class.auto.1.1.1.0 ∙ (classified (named c).before).classify.auto.1.1.1.1.1.0
+same-length-3 : tie.Need-shape_of-lefts
+same-length-3 c = c.lowest_of_class.auto.firsts ∙ c.classify.auto.lefts
 
-same-length-4 : tie.Need-same-length-4
-same-length-4 c = (classified (named c).before).classify.auto.1.1.1.1.1.1.0
+same-length-4 : tie.Need-shape_of-rights
+same-length-4 c = c.classify.auto.rights
 
-same-length-5 : tie.Need-same-length-5
-same-length-5 c = (classified (named c).before).classify.auto.1.1.1.1.1.1.1.0
+same-length-5 : tie.Need-shape_of-cells
+same-length-5 c = c.classify.auto.cells
 
 returns : tie.Need-returns
-returns c = names_found _ _ _ _ _ _ (classified (named c).before).classify.ensures (named c).lowest-of-class.ensures
+returns c = names_found _ _ _ _ _ _ c.classify.ensures c.lowest_of_class.ensures
 
-pub names-spec : {M : Type 1} → statement M
-names-spec =
+pub names_spec : {M : Type 1} → statement M
+names_spec =
     tie.close
     (tie.spec
     classify-requires

@@ -11,41 +11,41 @@ use Rattle.values.proofs.names.Keys.{test_same, test_other, found_at, found_none
 use Rattle.values.proofs.names.search_keys.Statement.{statement}
 use Rattle.values.proofs.names.search_keys.Tie as tie
 
-abbrev invariant-loop : tie.invariant-loop
+abbrev invariant-loop : tie.invariant-loop-j
 invariant-loop rows classes list k t j₀ j = (j ≤ k) × ((i : ℕ) → i < j → key_at rows classes t ≡ key_at rows classes (at list i) → ⊥)
 
-abbrev decreases-loop : tie.decreases-loop
+abbrev decreases-loop : tie.decreases-loop-j
 decreases-loop rows classes list k t j₀ j = k - j
 
-loop-holds : tie.Need-loop-init invariant-loop decreases-loop
+loop-holds : tie.Need-loop-j-init invariant-loop decreases-loop
 loop-holds c = (omega arith, λ i l. absurd (not-suc-le-zero l))
 
-mul-same-key : tie.Need-overflow-mul-same-key invariant-loop decreases-loop
-mul-same-key c = omega (arith, c.before.before.before.before.before.requires.0.0.list-fits)
+mul-same-key : tie.Need-offset_bounds-list-j invariant-loop decreases-loop
+mul-same-key c = omega (arith, c.requires.0.0.list-fits)
 
-shared-slice-read-same-key : tie.Need-shared-slice-read-same-key invariant-loop decreases-loop
-shared-slice-read-same-key c = omega (arith, c.before.before.before.before.before.before.requires.0.0.list-fits, c.before.loop-test.true)
+shared-slice-read-same-key : tie.Need-bounds-list-j invariant-loop decreases-loop
+shared-slice-read-same-key c = omega (arith, c.requires.0.0.list-fits, c.loop-j-test.true)
 
-same-key-requires : tie.Need-same-key-requires invariant-loop decreases-loop
-same-key-requires c κs = ((c.before.before.before.before.before.before.requires.0.1, c.before.before.before.before.before.before.requires.0.0.row c.before.before.loop.j c.before.loop-test.true), c.before.before.before.before.before.before.requires.1)
+same-key-requires : tie.Need-same_key-requires invariant-loop decreases-loop
+same-key-requires c κs = ((c.requires.0.1, c.requires.0.0.row c.loop-j.j c.loop-j-test.true), c.requires.1)
 
-returns : tie.Need-returns invariant-loop decreases-loop
-returns c = found_at c.before.before.before.loop-test.true (test_same _ _ _ c.before.same_key.ensures c.if1.true)
+returns : tie.Need-returns-then-same_key invariant-loop decreases-loop
+returns c = found_at c.loop-j-test.true (test_same _ _ _ c.same_key.ensures c.if-same_key.true)
 
-add-j : tie.Need-overflow-add-j invariant-loop decreases-loop
+add-j : tie.Need-overflow_add-j invariant-loop decreases-loop
 add-j c = omega arith
 
-loop-less : tie.Need-loop-smaller invariant-loop decreases-loop
+loop-less : tie.Need-loop-j-smaller invariant-loop decreases-loop
 loop-less c = omega arith
 
-loop-again : tie.Need-loop-preserved invariant-loop decreases-loop
-loop-again c = (omega (arith, c.before.before.before.loop-test.true), below_more _ _ c.before.before.before.before.loop.invariant.1 (test_other _ _ _ c.before.same_key.ensures c.if1.false))
+loop-again : tie.Need-loop-j-preserved invariant-loop decreases-loop
+loop-again c = (omega (arith, c.loop-j-test.true), below_more _ _ c.loop-j.invariant.1 (test_other _ _ _ c.same_key.ensures c.if-same_key.false))
 
-returns-2 : tie.Need-returns-2 invariant-loop decreases-loop
-returns-2 c = found_none (λ i l. c.before.loop.invariant.1 i (omega (arith, l, c.loop-test.false)))
+returns-2 : tie.Need-returns invariant-loop decreases-loop
+returns-2 c = found_none (λ i l. c.loop-j.invariant.1 i (omega (arith, l, c.loop-j-test.false)))
 
-pub search-keys-spec : {M : Type 1} → statement M
-search-keys-spec =
+pub search_keys_spec : {M : Type 1} → statement M
+search_keys_spec =
     tie.close
     (tie.spec
     invariant-loop

@@ -12,84 +12,84 @@ use Rattle.values.proofs.order.Orders.{Upto, upto_none, upto_more, upto_refused,
 use Rattle.values.proofs.order.order.Statement.{statement}
 use Rattle.values.proofs.order.order.Tie as tie
 
-abbrev invariant-loop : tie.invariant-loop
+abbrev invariant-loop : tie.invariant-loop-t
 invariant-loop rows bindings n marks₀ list₀ done₀ t₀ marks list done t =
     Upto (book_of rows n) (bound_of bindings n) marks list done t × (length marks ≡ length marks₀) × (length list ≡ length list₀)
 
-abbrev decreases-loop : tie.decreases-loop
+abbrev decreases-loop : tie.decreases-loop-t
 decreases-loop rows bindings n marks₀ list₀ done₀ t₀ marks list done t = n - t
 
 clear-requires : tie.Need-clear-requires invariant-loop decreases-loop
 clear-requires c κs = search rules
 
-loop-holds : tie.Need-loop-init invariant-loop decreases-loop
+loop-holds : tie.Need-loop-t-init invariant-loop decreases-loop
 loop-holds c =
-    let start = c.before.before.before.before.before.before.before.before in
+    let start = c in
     let none =
     upto_none (good_book start.requires.0) start.args.marks.now start.args.list.now start.requires.1.0 start.requires.1.1 in
-    (rw c.before.before.clear.ensures none, refl, refl)
+    (rw c.clear.ensures none, refl, refl)
 
-walk-term-requires : tie.Need-walk-term-requires invariant-loop decreases-loop
+walk-term-requires : tie.Need-walk_term-w-requires invariant-loop decreases-loop
 walk-term-requires c κs =
-    let head = c.before.before.before in
+    let head = c in
     record {
-      good = head.before.before.before.before.before.before.before.before.before.requires.0;
-      term = c.before.before.loop-test.true;
-      marking = head.loop.invariant.0.marking;
+      good = head.requires.0;
+      term = c.loop-t-test.true;
+      marking = head.loop-t.invariant.0.marking;
     }
 
-same_length : tie.Need-same-length invariant-loop decreases-loop
+same_length : tie.Need-shape_of-marks-then-not-w invariant-loop decreases-loop
 same_length c =
-    let called = c.before.before.before.before.before.before in
-    let head = called.before.before.before.before in
-    called.walk-term.auto.1.1.1.1.0 ∙ (head.loop.invariant.1 ∙ head.before.before.before.clear.auto.0)
+    let called = c in
+    let head = called in
+    called.walk_term-w.auto.marks ∙ (head.loop-t.invariant.1 ∙ head.clear.auto.words)
 
-same-length-2 : tie.Need-same-length-2 invariant-loop decreases-loop
+same-length-2 : tie.Need-shape_of-list-then-not-w invariant-loop decreases-loop
 same-length-2 c =
-    let called = c.before.before.before.before.before.before in
-    called.walk-term.auto.1.1.1.1.1.0 ∙ called.before.before.before.before.loop.invariant.2
+    let called = c in
+    called.walk_term-w.auto.list ∙ called.loop-t.invariant.2
 
-returns : tie.Need-returns invariant-loop decreases-loop
+returns : tie.Need-returns-then-not-w invariant-loop decreases-loop
 returns c =
-    let called = c.before.before.before.before.before.before in
-    let turn = called.before.before.before in
-    let good = good_book turn.before.before.before.before.before.before.before.before.before.before.requires.0 in
-    upto_refused good turn.before.loop.invariant.0 turn.loop-test.true (called.walk-term.ensures.refuses (not-true _ c.if1.true))
+    let called = c in
+    let turn = called in
+    let good = good_book turn.requires.0 in
+    upto_refused good turn.loop-t.invariant.0 turn.loop-t-test.true (called.walk_term-w.ensures.refuses (not-true _ c.if-not-w.true))
 
-add-t : tie.Need-overflow-add-t invariant-loop decreases-loop
+add-t : tie.Need-overflow_add-t invariant-loop decreases-loop
 add-t c =
-    let turn = c.before.before.before.before.before.before.before.before.before in
-    omega (arith, turn.loop-test.true, turn.before.before.before.before.before.before.before.before.before.before.ranges.n)
+    let turn = c in
+    omega (arith, turn.loop-t-test.true, turn.ranges.n)
 
-loop-less : tie.Need-loop-smaller invariant-loop decreases-loop
+loop-less : tie.Need-loop-t-smaller invariant-loop decreases-loop
 loop-less c = search rules
 
-loop-again : tie.Need-loop-preserved invariant-loop decreases-loop
+loop-again : tie.Need-loop-t-preserved invariant-loop decreases-loop
 loop-again c =
-    let called = c.before.before.before.before.before.before in
-    let call = called.walk-term in
-    let turn = called.before.before.before in
-    let head = turn.before in
-    let good = good_book head.before.before.before.before.before.before.before.before.before.requires.0 in (
-      upto_more good head.loop.invariant.0 turn.loop-test.true (call.ensures.accepts (not-false _ c.if1.false)),
-      call.auto.1.1.1.1.0 ∙ head.loop.invariant.1,
-      call.auto.1.1.1.1.1.0 ∙ head.loop.invariant.2,
+    let called = c in
+    let call = called.walk_term-w in
+    let turn = called in
+    let head = turn in
+    let good = good_book head.requires.0 in (
+      upto_more good head.loop-t.invariant.0 turn.loop-t-test.true (call.ensures.accepts (not-false _ c.if-not-w.false)),
+      call.auto.marks ∙ head.loop-t.invariant.1,
+      call.auto.list ∙ head.loop-t.invariant.2,
     )
 
-same-length-3 : tie.Need-same-length-3 invariant-loop decreases-loop
-same-length-3 c = c.before.loop.invariant.1 ∙ c.before.before.before.before.clear.auto.0
+same-length-3 : tie.Need-shape_of-marks invariant-loop decreases-loop
+same-length-3 c = c.loop-t.invariant.1 ∙ c.clear.auto.words
 
-same-length-4 : tie.Need-same-length-4 invariant-loop decreases-loop
-same-length-4 c = c.before.loop.invariant.2
+same-length-4 : tie.Need-shape_of-list invariant-loop decreases-loop
+same-length-4 c = c.loop-t.invariant.2
 
-returns-2 : tie.Need-returns-2 invariant-loop decreases-loop
+returns-2 : tie.Need-returns invariant-loop decreases-loop
 returns-2 c =
-    let head = c.before in
-    let good = good_book head.before.before.before.before.before.before.before.before.before.requires.0 in
-    (upto_acyclic good head.loop.invariant.0 c.loop-test.false, λ _. upto_ordered good head.loop.invariant.0 c.loop-test.false)
+    let head = c in
+    let good = good_book head.requires.0 in
+    (upto_acyclic good head.loop-t.invariant.0 c.loop-t-test.false, λ _. upto_ordered good head.loop-t.invariant.0 c.loop-t-test.false)
 
-pub order-spec : {M : Type 1} → statement M
-order-spec =
+pub order_spec : {M : Type 1} → statement M
+order_spec =
     tie.close
     (tie.spec
     invariant-loop

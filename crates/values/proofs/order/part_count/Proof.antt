@@ -8,52 +8,52 @@ use Rattle.values.proofs.order.Parts.{parts_free, parts-bound, count-app}
 use Rattle.values.proofs.order.part_count.Statement.{statement}
 use Rattle.values.proofs.order.part_count.Tie as tie
 
-mul-row : tie.Need-overflow-mul-row
+mul-row : tie.Need-overflow_mul-row
 mul-row c = search rules
 
-mul-if1 : tie.Need-overflow-mul-if1
+mul-if1 : tie.Need-offset_bounds-rows-row
 mul-if1 c = search rules
 
-shared-slice-read-if1 : tie.Need-shared-slice-read-if1
+shared-slice-read-if1 : tie.Need-bounds-rows-row
 shared-slice-read-if1 c = search rules
 
-add-result : tie.Need-overflow-add-result
+add-result : tie.Need-overflow_add-result
 add-result c = search rules
 
-mul-result : tie.Need-overflow-mul-result
+mul-result : tie.Need-offset_bounds-rows-row-then-rows-row-ne0
 mul-result c = search rules
 
-shared-slice-read-result : tie.Need-shared-slice-read-result
+shared-slice-read-result : tie.Need-bounds-rows-row-then-rows-row-ne0
 shared-slice-read-result c = search rules
 
-cast-result : tie.Need-overflow-cast-result
+cast-result : tie.Need-overflow_cast-result
 cast-result c =
-    let start = c.before.before.before in
+    let start = c in
     omega (arith, start.requires.0.few-arguments start.args.t start.requires.1)
 
-returns : tie.Need-returns
+returns : tie.Need-returns-then-rows-row-ne0
 returns c =
-    let start = c.before.before.before in
-    count-app start.requires.0 start.args.t start.requires.1 c.before.if1.true
+    let start = c in
+    count-app start.requires.0 start.args.t start.requires.1 c.if-rows-row-ne0.true
 
-mul-if2 : tie.Need-overflow-mul-if2
+mul-if2 : tie.Need-offset_bounds-bindings-t
 mul-if2 c = search rules
 
-shared-slice-read-if2 : tie.Need-shared-slice-read-if2
+shared-slice-read-if2 : tie.Need-bounds-bindings-t
 shared-slice-read-if2 c = search rules
 
-returns-2 : tie.Need-returns-2
+returns-2 : tie.Need-returns-then-bindings-t-eq0
 returns-2 c =
-    let start = c.before.before.before.before in
-    sym (ap length (parts_free start.requires.0 start.args.t start.requires.1 c.before.before.if1.false c.if2.true))
+    let start = c in
+    sym (ap length (parts_free start.requires.0 start.args.t start.requires.1 c.if-rows-row-ne0.false c.if-bindings-t-eq0.true))
 
-returns-3 : tie.Need-returns-3
+returns-3 : tie.Need-returns
 returns-3 c =
-    let start = c.before.before.before.before in
-    sym (ap length (parts-bound start.requires.0 start.args.t start.requires.1 c.before.before.if1.false c.if2.false))
+    let start = c in
+    sym (ap length (parts-bound start.requires.0 start.args.t start.requires.1 c.if-rows-row-ne0.false c.if-bindings-t-eq0.false))
 
-pub part-count-spec : {M : Type 1} → statement M
-part-count-spec =
+pub part_count_spec : {M : Type 1} → statement M
+part_count_spec =
     tie.close
     (tie.spec
     mul-row

@@ -3,13 +3,13 @@ use Rattle.values.specs.roots.Flags.{flag}
 use Rattle.values.proofs.roots.flag.Statement.{statement}
 use Rattle.values.proofs.roots.flag.Tie as tie
 
-returns : tie.Need-returns
+returns : tie.Need-returns-then-stands
 unfolding flag
-returns c = rw c.if1.true
+returns c = rw c.if-stands.true
 
-returns-2 : tie.Need-returns-2
+returns-2 : tie.Need-returns
 unfolding flag
-returns-2 c = rw c.if1.false
+returns-2 c = rw c.if-stands.false
 
-pub flag-spec : {M : Type 1} → statement M
-flag-spec = tie.close (tie.spec returns returns-2)
+pub flag_spec : {M : Type 1} → statement M
+flag_spec = tie.close (tie.spec returns returns-2)

@@ -12,58 +12,58 @@ use Rattle.values.proofs.roots.Flags.{IsFlag, flag-stands, occurs-next}
 use Rattle.values.proofs.roots.occurs_in.Statement.{statement}
 use Rattle.values.proofs.roots.occurs_in.Tie as tie
 
-abbrev invariant-loop : tie.invariant-loop
+abbrev invariant-loop : tie.invariant-loop-k
 invariant-loop rows bindings n flags₀ list v t k₀ flags k = Filled rows bindings list n (IsFlag rows bindings n v) flags₀ flags k
 
-abbrev decreases-loop : tie.decreases-loop
+abbrev decreases-loop : tie.decreases-loop-k
 decreases-loop rows bindings n flags₀ list v t k₀ flags k = n - k
 
-loop-holds : tie.Need-loop-init invariant-loop decreases-loop
-loop-holds c = filled_none c.before.before.before.before.requires.0.0 c.before.before.before.before.requires.0.1
+loop-holds : tie.Need-loop-k-init invariant-loop decreases-loop
+loop-holds c = filled_none c.requires.0.0 c.requires.0.1
 
-shared-slice-read-u : tie.Need-shared-slice-read-u invariant-loop decreases-loop
-shared-slice-read-u c = (next_fits c.before.before.loop.invariant c.before.loop-test.true).0
+shared-slice-read-u : tie.Need-bounds-list-k invariant-loop decreases-loop
+shared-slice-read-u c = (next_fits c.loop-k.invariant c.loop-k-test.true).0
 
-occurs-step-requires : tie.Need-occurs-step-requires invariant-loop decreases-loop
-occurs-step-requires c κs = next_readable c.before.before.before.loop.invariant c.before.before.loop-test.true
+occurs-step-requires : tie.Need-occurs_step-stands-requires invariant-loop decreases-loop
+occurs-step-requires c κs = next_readable c.loop-k.invariant c.loop-k-test.true
 
-same_length : tie.Need-same-length invariant-loop decreases-loop
-same_length c = c.before.before.before.before.before.loop.invariant.size
+same_length : tie.Need-shape_of-flags-then-u-t invariant-loop decreases-loop
+same_length c = c.loop-k.invariant.size
 
 -- the term itself
-returns : tie.Need-returns invariant-loop decreases-loop
+returns : tie.Need-returns-then-u-t invariant-loop decreases-loop
 returns c =
-    let l = c.before.before.before.before in
-    let a = l.before.before.before.before.before.before.args in
-    occurs-next _ l.before.loop.invariant l.loop-test.true _ c.before.occurs-step.ensures
-    ∙ ap (λ u. occurs a.v (val (book_of a.rows.now a.n) (bound_of a.bindings.now a.n) u)) c.if1.true
+    let l = c in
+    let a = l.args in
+    occurs-next _ l.loop-k.invariant l.loop-k-test.true _ c.occurs_step-stands.ensures
+    ∙ ap (λ u. occurs a.v (val (book_of a.rows.now a.n) (bound_of a.bindings.now a.n) u)) c.if-u-t.true
 
-cast-flags : tie.Need-overflow-cast-flags invariant-loop decreases-loop
-cast-flags c = omega (arith, next-term c.before.before.before.before.before.before.loop.invariant c.before.before.before.before.before.loop-test.true)
+cast-flags : tie.Need-overflow_cast-flags invariant-loop decreases-loop
+cast-flags c = omega (arith, next-term c.loop-k.invariant c.loop-k-test.true)
 
-mul-flags : tie.Need-overflow-mul-flags invariant-loop decreases-loop
-mul-flags c = omega (arith, next-term c.before.before.before.before.before.before.loop.invariant c.before.before.before.before.before.loop-test.true)
+mul-flags : tie.Need-offset_bounds-flags-u invariant-loop decreases-loop
+mul-flags c = omega (arith, next-term c.loop-k.invariant c.loop-k-test.true)
 
-slice-write-flags : tie.Need-slice-write-flags invariant-loop decreases-loop
-slice-write-flags c = (next_fits c.before.before.before.before.before.before.loop.invariant c.before.before.before.before.before.loop-test.true).1
+slice-write-flags : tie.Need-bounds-flags-u invariant-loop decreases-loop
+slice-write-flags c = (next_fits c.loop-k.invariant c.loop-k-test.true).1
 
-loop-again : tie.Need-loop-preserved invariant-loop decreases-loop
+loop-again : tie.Need-loop-k-preserved invariant-loop decreases-loop
 loop-again c =
-    let h = c.before.before.before.before.before.before.loop.invariant in
-    let l = c.before.before.before.before.before.loop-test.true in
-    filled_more h _ l (c.flag.ensures ∙ ap flag (occurs-next _ h l _ c.before.before.occurs-step.ensures))
+    let h = c.loop-k.invariant in
+    let l = c.loop-k-test.true in
+    filled_more h _ l (c.flag.ensures ∙ ap flag (occurs-next _ h l _ c.occurs_step-stands.ensures))
 
-slice-read-result : tie.Need-slice-read-result invariant-loop decreases-loop
-slice-read-result c = omega (arith, c.before.before.loop.invariant.size, c.before.before.loop.invariant.fits)
+slice-read-result : tie.Need-bounds-flags-t invariant-loop decreases-loop
+slice-read-result c = omega (arith, c.loop-k.invariant.size, c.loop-k.invariant.fits)
 
-same-length-2 : tie.Need-same-length-2 invariant-loop decreases-loop
-same-length-2 c = c.before.before.loop.invariant.size
+same-length-2 : tie.Need-shape_of-flags invariant-loop decreases-loop
+same-length-2 c = c.loop-k.invariant.size
 
-returns-2 : tie.Need-returns-2 invariant-loop decreases-loop
-returns-2 c = flag-stands _ _ (filled_all c.before.before.loop.invariant c.before.loop-test.false _ c.before.before.before.before.before.before.before.requires.1)
+returns-2 : tie.Need-returns invariant-loop decreases-loop
+returns-2 c = flag-stands _ _ (filled_all c.loop-k.invariant c.loop-k-test.false _ c.requires.1)
 
-pub occurs-in-spec : {M : Type 1} → statement M
-occurs-in-spec =
+pub occurs_in_spec : {M : Type 1} → statement M
+occurs_in_spec =
     tie.close
     (tie.spec
     invariant-loop

@@ -7,53 +7,53 @@ use Rattle.values.proofs.roots.RootStep.{IsRoot, root-next}
 use Rattle.values.proofs.roots.roots.Statement.{statement}
 use Rattle.values.proofs.roots.roots.Tie as tie
 
-abbrev invariant-loop : tie.invariant-loop
+abbrev invariant-loop : tie.invariant-loop-k
 invariant-loop rows bindings n list roots₀ k₀ roots k = Filled rows bindings list n (IsRoot rows bindings n) roots₀ roots k
 
-abbrev decreases-loop : tie.decreases-loop
+abbrev decreases-loop : tie.decreases-loop-k
 decreases-loop rows bindings n list roots₀ k₀ roots k = n - k
 
-loop-holds : tie.Need-loop-init invariant-loop decreases-loop
-loop-holds c = filled_none c.before.before.before.before.requires.0 c.before.before.before.before.requires.1
+loop-holds : tie.Need-loop-k-init invariant-loop decreases-loop
+loop-holds c = filled_none c.requires.0 c.requires.1
 
-mul-t : tie.Need-overflow-mul-t invariant-loop decreases-loop
+mul-t : tie.Need-offset_bounds-list-k invariant-loop decreases-loop
 mul-t c = omega arith
 
-shared-slice-read-t : tie.Need-shared-slice-read-t invariant-loop decreases-loop
-shared-slice-read-t c = (next_fits c.before.before.loop.invariant c.before.loop-test.true).0
+shared-slice-read-t : tie.Need-bounds-list-k invariant-loop decreases-loop
+shared-slice-read-t c = (next_fits c.loop-k.invariant c.loop-k-test.true).0
 
-root-of-requires : tie.Need-root-of-requires invariant-loop decreases-loop
-root-of-requires c κs = next_readable c.before.before.before.loop.invariant c.before.before.loop-test.true
+root-of-requires : tie.Need-root_of-root-requires invariant-loop decreases-loop
+root-of-requires c κs = next_readable c.loop-k.invariant c.loop-k-test.true
 
-cast-roots : tie.Need-overflow-cast-roots invariant-loop decreases-loop
-cast-roots c = omega (arith, next-term c.before.before.before.before.loop.invariant c.before.before.before.loop-test.true)
+cast-roots : tie.Need-overflow_cast-roots invariant-loop decreases-loop
+cast-roots c = omega (arith, next-term c.loop-k.invariant c.loop-k-test.true)
 
-mul-roots : tie.Need-overflow-mul-roots invariant-loop decreases-loop
-mul-roots c = omega (arith, next-term c.before.before.before.before.loop.invariant c.before.before.before.loop-test.true)
+mul-roots : tie.Need-offset_bounds-roots-t invariant-loop decreases-loop
+mul-roots c = omega (arith, next-term c.loop-k.invariant c.loop-k-test.true)
 
-slice-write-roots : tie.Need-slice-write-roots invariant-loop decreases-loop
-slice-write-roots c = (next_fits c.before.before.before.before.loop.invariant c.before.before.before.loop-test.true).1
+slice-write-roots : tie.Need-bounds-roots-t invariant-loop decreases-loop
+slice-write-roots c = (next_fits c.loop-k.invariant c.loop-k-test.true).1
 
-add-k : tie.Need-overflow-add-k invariant-loop decreases-loop
+add-k : tie.Need-overflow_add-k invariant-loop decreases-loop
 add-k c = omega arith
 
-loop-less : tie.Need-loop-smaller invariant-loop decreases-loop
+loop-less : tie.Need-loop-k-smaller invariant-loop decreases-loop
 loop-less c = omega arith
 
-loop-again : tie.Need-loop-preserved invariant-loop decreases-loop
+loop-again : tie.Need-loop-k-preserved invariant-loop decreases-loop
 loop-again c =
-    let h = c.before.before.before.before.loop.invariant in
-    let l = c.before.before.before.loop-test.true in
-    filled_more h _ l (root-next h l _ c.root-of.ensures)
+    let h = c.loop-k.invariant in
+    let l = c.loop-k-test.true in
+    filled_more h _ l (root-next h l _ c.root_of-root.ensures)
 
-same_length : tie.Need-same-length invariant-loop decreases-loop
-same_length c = c.before.loop.invariant.size
+same_length : tie.Need-shape_of-roots invariant-loop decreases-loop
+same_length c = c.loop-k.invariant.size
 
 returns : tie.Need-returns invariant-loop decreases-loop
-returns c = filled_map c.before.loop.invariant _ (λ t w e. e) c.loop-test.false
+returns c = filled_map c.loop-k.invariant _ (λ t w e. e) c.loop-k-test.false
 
-pub roots-spec : {M : Type 1} → statement M
-roots-spec =
+pub roots_spec : {M : Type 1} → statement M
+roots_spec =
     tie.close
     (tie.spec
     invariant-loop

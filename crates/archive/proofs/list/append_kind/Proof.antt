@@ -37,8 +37,8 @@ loop-again : tie.Need-loop-t-preserved invariant-loop decreases-loop
 loop-again c =
     let l = c in
     let more = c.loop-t-test.true in
-    ⊎_elim (λ u. rw (u.1, u.2) (kept_more _ _ l.loop-t.invariant more (kind_tested _ _ _ ∙ u.0.taken)))
-    (λ u. rw (u.1, u.2) (kept_same _ _ l.loop-t.invariant more (kind_tested _ _ _ ∙ u.0.left))) c.if-rows-t.branch
+    ⊎_elim (λ u. rw (u.listed-is, u.next-is) (kept_more _ _ l.loop-t.invariant more (kind_tested _ _ _ ∙ u.if-rows-t.true)))
+    (λ u. rw (u.listed-is, u.next-is) (kept_same _ _ l.loop-t.invariant more (kind_tested _ _ _ ∙ u.if-rows-t.false))) c.if-rows-t.branch-raw
 
 same_length : tie.Need-shape_of-listed invariant-loop decreases-loop
 same_length c = kept_long _ _ c.loop-t.invariant

@@ -52,7 +52,7 @@ loop-again c =
     let more = placed-more s.args.listed.now l.i l.places l.invariant.2 (omega (arith, below, l.invariant.1)) in (
       omega arith,
       rw length-set l.invariant.1,
-      ⊎_elim (λ u. more (λ k e. u.3.left e)) (λ u. more (λ k e. omega (arith, u.left))) c.if-j-i.branch,
+      ⊎_elim (λ u. more (λ k e. u.if-listed-j.false e)) (λ u. more (λ k e. omega (arith, u.if-j-i.false))) c.if-j-i.branch-raw,
     )
 
 returns-2 : tie.Need-returns invariant-loop decreases-loop

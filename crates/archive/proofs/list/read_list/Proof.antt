@@ -45,8 +45,8 @@ loop-again c =
     let number = number-answered _ _ c.read.ensures.0 c.in-Number.is in
     let more = read_more l.invariant.1 c.loop-i-test.true _ _ number in (
       rw length-set l.invariant.0,
-      ⊎_elim (λ u. more _ (rw (u.1, le-ltb _ _ u.0.taken, and-false)))
-          (λ u. more _ (rw (u.1, lt-ltb _ _ u.0.left, and-true))) c.if-n-value.branch,
+      ⊎_elim (λ u. more _ (rw (u.named-is, le-ltb _ _ u.if-n-value.true, and-false)))
+          (λ u. more _ (rw (u.named-is, lt-ltb _ _ u.if-n-value.false, and-true))) c.if-n-value.branch-raw,
     )
 
 returns-3 : tie.Need-returns-then-next-list invariant-loop decreases-loop

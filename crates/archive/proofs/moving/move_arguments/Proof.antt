@@ -54,8 +54,8 @@ loop-again c =
     let s = c in
     let l = c.loop-j in
     let more = moved_more _ _ _ l.invariant s.requires.0 c.loop-j-test.true _ c.length_of-bytes.ensures in
-    ⊎_elim (λ u. more _ (rw (u.1, le-ltb _ _ u.0.taken, and-false)))
-    (λ u. more _ (rw (u.1, lt-ltb _ _ u.0.left, and-true))) c.if-limit-b.branch
+    ⊎_elim (λ u. more _ (rw (u.lower-is, le-ltb _ _ u.if-limit-b.true, and-false)))
+    (λ u. more _ (rw (u.lower-is, lt-ltb _ _ u.if-limit-b.false, and-true))) c.if-limit-b.branch-raw
 
 same_length : tie.Need-shape_of-moved invariant-loop decreases-loop
 same_length c = moved-long _ _ _ c.loop-j.invariant

@@ -52,8 +52,8 @@ loop-again c =
     let l = c.loop-i in
     let done = c.move_term-term.ensures in
     let next = terms-next s.args.rows.now s.args.n s.args.source.now s.args.target.now s.requires.0 l.invariant c.loop-i-test.true s.requires.1 _ done.1.0 done.1.1 in
-    ⊎_elim (λ u. next c.if-not-term.lower (u.1 ∙ falls l.lower (sym done.0 ∙ not-true _ u.0.taken)))
-    (λ u. next c.if-not-term.lower (u.1 ∙ stays l.lower (sym done.0 ∙ not-false _ u.0.left))) c.if-not-term.branch
+    ⊎_elim (λ u. next c.if-not-term.lower (u.lower-is ∙ falls l.lower (sym done.0 ∙ not-true _ u.if-not-term.true)))
+    (λ u. next c.if-not-term.lower (u.lower-is ∙ stays l.lower (sym done.0 ∙ not-false _ u.if-not-term.false))) c.if-not-term.branch-raw
 
 same_length : tie.Need-shape_of-moved invariant-loop decreases-loop
 same_length c = terms-long _ _ _ _ c.requires.0 c.loop-i.invariant c.requires.1

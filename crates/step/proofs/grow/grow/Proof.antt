@@ -10,14 +10,14 @@ index-requires : tie.Need-index-requires
 index-requires c κs = index_given c.requires
 
 place-requires : tie.Need-place-p-requires
-place-requires c κs = place_given c.index.ensures (index_sizes c.index.auto.1.1.1) c.requires
+place-requires c κs = place_given c.index.ensures (index_sizes c.index.auto.lefts c.index.auto.rights c.index.auto.cells) c.requires
 
 -- no room for the pair
 returns : tie.Need-returns-then-p
-returns c = grown_full c.index.ensures (index_sizes c.index.auto.1.1.1) c.place-p.ensures c.if-p.true
+returns c = grown_full c.index.ensures (index_sizes c.index.auto.lefts c.index.auto.rights c.index.auto.cells) c.place-p.ensures c.if-p.true
 
 walk-requires : tie.Need-walk-w-requires
-walk-requires c κs = walk_given c.index.ensures (index_sizes c.index.auto.1.1.1) c.place-p.ensures c.if-p.false c.requires
+walk-requires c κs = walk_given c.index.ensures (index_sizes c.index.auto.lefts c.index.auto.rights c.index.auto.cells) c.place-p.ensures c.if-p.false c.requires
 
 same-length-6 : tie.Need-shape_of-lefts
 same-length-6 c = c.walk-w.auto.lefts ∙ c.place-p.auto.lefts ∙ c.index.auto.lefts
@@ -29,7 +29,7 @@ same-length-8 : tie.Need-shape_of-cells
 same-length-8 c = c.walk-w.auto.cells ∙ c.place-p.auto.cells ∙ c.index.auto.cells
 
 returns-2 : tie.Need-returns
-returns-2 c = grown c.index.ensures (index_sizes c.index.auto.1.1.1) c.place-p.ensures c.if-p.false c.walk-w.ensures
+returns-2 c = grown c.index.ensures (index_sizes c.index.auto.lefts c.index.auto.rights c.index.auto.cells) c.place-p.ensures c.if-p.false c.walk-w.ensures
 
 pub grow_spec : {M : Type 1} → statement M
 grow_spec =

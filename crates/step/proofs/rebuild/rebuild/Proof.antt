@@ -19,7 +19,6 @@ returns c =
 index-requires : tie.Need-index-requires
 index-requires c κs =
     let n = c in
-    let k = n.name_terms.auto.1.1.1.1.1.1 in
     record {
       book = _;
       bound = _;
@@ -37,9 +36,8 @@ walk_at : (i : tie.After-index) →
     (bound_of a.bindings.now h.terms) (table_of a.entries.now h.entries)
 walk_at i =
     let n = i in
-    let k = n.name_terms.auto.1.1.1.1.1.1 in
-    to_walk n.requires (n.name_terms.ensures.1 (not-false _ i.if-not-name_terms.false-raw)) c.name_terms.auto.lefts c.name_terms.auto.rights c.name_terms.auto.cells
-    (index_sizes i.index.auto.1.1.1)
+    to_walk n.requires (n.name_terms.ensures.1 (not-false _ i.if-not-name_terms.false-raw)) i.name_terms.auto.lefts i.name_terms.auto.rights i.name_terms.auto.cells
+    (index_sizes i.index.auto.lefts i.index.auto.rights i.index.auto.cells)
     i.index.ensures
 
 walk-and-settle-requires : tie.Need-walk_and_settle-requires

@@ -8,11 +8,11 @@ use Rattle.fit.proofs.fit_add.Tie as tie
 
 returns : tie.Need-returns
 returns c =
-    let called = line_added _ _ c.before.before.before.before.step.ensures in
-    (c.refusal-number.ensures ∙ called.0, (ap (λ i. i ∷ []) c.before.entry-number.ensures ∙ called.1.0, called.1.1))
+    let called = line_added _ _ c.step-answer.ensures in
+    (c.refusal_number.ensures ∙ called.0, (ap (λ i. i ∷ []) c.entry_number.ensures ∙ called.1.0, called.1.1))
 
-pub fit-add-spec : {M : Type 1} → statement M
-fit-add-spec =
+pub fit_add_spec : {M : Type 1} → statement M
+fit_add_spec =
     tie.close
     (tie.spec
     (λ c κs. search rules)

@@ -8,13 +8,13 @@ use Rattle.fit.proofs.fit_bind.Tie as tie
 
 returns : tie.Need-returns
 returns c =
-    let called = choice_fixed _ _ c.before.before.before.before.before.step.ensures in (
-      c.refusal-number.ensures ∙ called.0,
-      (ap₂ (λ m n. m ∷ n ∷ []) c.before.before.turned-number.ensures c.before.appended-number.ensures ∙ called.1.0, called.1.1),
+    let called = choice_fixed _ _ c.step-answer.ensures in (
+      c.refusal_number.ensures ∙ called.0,
+      (ap₂ (λ m n. m ∷ n ∷ []) c.turned_number.ensures c.appended_number.ensures ∙ called.1.0, called.1.1),
     )
 
-pub fit-bind-spec : {M : Type 1} → statement M
-fit-bind-spec =
+pub fit_bind_spec : {M : Type 1} → statement M
+fit_bind_spec =
     tie.close
     (tie.spec
     (λ c κs. search rules)

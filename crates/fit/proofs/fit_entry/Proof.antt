@@ -3,5 +3,5 @@ use borrow.Author.Rules.{rules}
 use Rattle.fit.proofs.fit_entry.Statement.{statement}
 use Rattle.fit.proofs.fit_entry.Tie as tie
 
-pub fit-entry-spec : {M : Type 1} → statement M
-fit-entry-spec = tie.close (tie.spec (λ c κs. search rules) (λ c. c.entry.ensures))
+pub fit_entry_spec : {M : Type 1} → statement M
+fit_entry_spec = tie.close (tie.spec (λ c κs. search rules) (λ c. c.entry.ensures))

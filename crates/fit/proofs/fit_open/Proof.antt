@@ -3,5 +3,5 @@ use borrow.Author.Rules.{rules}
 use Rattle.fit.proofs.fit_open.Statement.{statement}
 use Rattle.fit.proofs.fit_open.Tie as tie
 
-pub fit-open-spec : {M : Type 1} → statement M
-fit-open-spec = tie.close (tie.spec (λ c κs. search rules) (λ c. search rules) (λ c. c.before.before.open.ensures))
+pub fit_open_spec : {M : Type 1} → statement M
+fit_open_spec = tie.close (tie.spec (λ c κs. search rules) (λ c. search rules) (λ c. c.open.ensures))

@@ -3,5 +3,5 @@ use borrow.Author.Rules.{rules}
 use Rattle.fit.proofs.fit_write.Statement.{statement}
 use Rattle.fit.proofs.fit_write.Tie as tie
 
-pub fit-write-spec : {M : Type 1} → statement M
-fit-write-spec = tie.close (tie.spec (λ c κs. search rules) (λ c. search rules) (λ c. search rules))
+pub fit_write_spec : {M : Type 1} → statement M
+fit_write_spec = tie.close (tie.spec (λ c κs. search rules) (λ c. search rules) (λ c. search rules))

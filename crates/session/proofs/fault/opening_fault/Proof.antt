@@ -8,30 +8,30 @@ use Rattle.session.proofs.fault.Cases.{long_fault, fault_by}
 use Rattle.session.proofs.fault.opening_fault.Statement.{statement}
 use Rattle.session.proofs.fault.opening_fault.Tie as tie
 
-returns : tie.Need-returns
-returns c = long_fault _ c.if1.true
+returns : tie.Need-returns-then-input-gt-LONGEST
+returns c = long_fault _ c.if-input-gt-LONGEST.true
 
-book-fault-requires : tie.Need-book-fault-requires
+book-fault-requires : tie.Need-book_fault-requires
 book-fault-requires c κs =
-    let known = c.before in
-    (number_ahead _ _ known.before.before.read.ensures.0 known.value.given.1).1
+    let known = c in
+    (number_ahead _ _ known.read.ensures.0 known.in-Number.is).1
 
-returns-2 : tie.Need-returns-2
+returns-2 : tie.Need-returns-in-Number
 returns-2 c =
-    let known = c.before.before in
-    let read = known.before.before in
-    fault_by _ read.before.if1.false read.read.ensures.0 known.value.given.1 c.book_fault_lem.ensures
+    let known = c in
+    let read = known in
+    fault_by _ read.if-input-gt-LONGEST.false read.read.ensures.0 known.in-Number.is c.book_fault.ensures
 
-returns-3 : tie.Need-returns-3
+returns-3 : tie.Need-returns-in-Cut
 unfolding book_fault
-returns-3 c = let read = c.before.before in fault_by _ read.before.if1.false read.read.ensures.0 c.enum_told.given.1 refl
+returns-3 c = let read = c in fault_by _ read.if-input-gt-LONGEST.false read.read.ensures.0 c.in-Cut.is refl
 
-returns-4 : tie.Need-returns-4
+returns-4 : tie.Need-returns-in-Invalid
 unfolding book_fault
-returns-4 c = let read = c.before.before in fault_by _ read.before.if1.false read.read.ensures.0 c.enum-told2.given.1 refl
+returns-4 c = let read = c in fault_by _ read.if-input-gt-LONGEST.false read.read.ensures.0 c.in-Invalid.is refl
 
-pub opening-fault-spec : {M : Type 1} → statement M
-opening-fault-spec =
+pub opening_fault_spec : {M : Type 1} → statement M
+opening_fault_spec =
     tie.close
     (tie.spec
     returns

@@ -6,21 +6,21 @@ use Rattle.session.proofs.said.Saying.{line_front, nothing_front, opening-said, 
 use Rattle.session.proofs.said.of_opening.Statement.{statement}
 use Rattle.session.proofs.said.of_opening.Tie as tie
 
-cast-put-said : tie.Need-overflow-cast-put-said
-cast-put-said c = search (rules, fault_within _ c.opening-fault.ensures)
+cast-put-said : tie.Need-overflow_cast-opening_fault
+cast-put-said c = search (rules, fault_within _ c.opening_fault.ensures)
 
-returns : tie.Need-returns
+returns : tie.Need-returns-in-Refused
 returns c =
-    let put = c.before.before in
-    let found = put.before in
-    line_front _ (refused-said _ found.before.before.before.begun.given.1 found.opening-fault.ensures) put.put-said.ensures
+    let put = c in
+    let found = put in
+    line_front _ (refused-said _ found.in-Refused.is found.opening_fault.ensures) put.put_said.ensures
 
-returns-2 : tie.Need-returns-2
+returns-2 : tie.Need-returns-in-At
 unfolding opening_said
-returns-2 c = nothing_front _ (opening-said _ c.before.begun2.given.1)
+returns-2 c = nothing_front _ (opening-said _ c.in-At.is)
 
-pub of-opening-spec : {M : Type 1} → statement M
-of-opening-spec =
+pub of_opening_spec : {M : Type 1} → statement M
+of_opening_spec =
     tie.close
     (tie.spec
     (λ c. search rules)

@@ -13,39 +13,33 @@ use Rattle.session.proofs.said.put_words.Tie as tie
 by-words : (line : List ℕ) (at k n : ℕ) → k ≡ n → {end : List ℕ} {next : ℕ} → Laid line at (words n) end next → Laid line at (words k) end next
 by-words line at k n e l = rw e l
 
-no-refusal : tie.Need-returns-7
+no-refusal : tie.Need-returns-in_default
 no-refusal c =
-    let s = c.before.before in
-    let e = no_words s.args.refusal c.match.rest in
+    let s = c in
+    let e = no_words s.args.refusal c.in_default.in_default-own.rest in
     rw e (laid_none s.args.line.now s.args.at)
 
-pub put-words-spec : {M : Type 1} → statement M
+pub put_words_spec : {M : Type 1} → statement M
 unfolding words ascii
-put-words-spec =
+put_words_spec =
     tie.close
     (tie.spec
-    (λ c. search rules)
+    (λ c κs. search rules)
+    (λ c κs. search rules)
+    (λ c κs. search rules)
+    (λ c κs. search rules)
+    (λ c κs. search rules)
     (λ c κs. search rules)
     (λ c. search rules)
-    (λ c κs. search rules)
+    (λ c. let call = c in by-words _ _ call.args.refusal 1 (search rules) call.put_bytes.ensures)
     (λ c. search rules)
-    (λ c κs. search rules)
+    (λ c. let call = c in by-words _ _ call.args.refusal 2 (search rules) call.put_bytes-in-2.ensures)
     (λ c. search rules)
-    (λ c κs. search rules)
+    (λ c. let call = c in by-words _ _ call.args.refusal 3 (search rules) call.put_bytes-in-3.ensures)
     (λ c. search rules)
-    (λ c κs. search rules)
+    (λ c. let call = c in by-words _ _ call.args.refusal 4 (search rules) call.put_bytes-in-4.ensures)
     (λ c. search rules)
-    (λ c κs. search rules)
+    (λ c. let call = c in by-words _ _ call.args.refusal 5 (search rules) call.put_bytes-in-5.ensures)
     (λ c. search rules)
-    (λ c. let call = c.before.before in by-words _ _ call.before.before.before.before.before.args.refusal 1 (search rules) call.put-bytes.ensures)
-    (λ c. search rules)
-    (λ c. let call = c.before.before in by-words _ _ call.before.before.before.before.before.args.refusal 2 (search rules) call.put-bytes2.ensures)
-    (λ c. search rules)
-    (λ c. let call = c.before.before in by-words _ _ call.before.before.before.before.before.args.refusal 3 (search rules) call.put-bytes3.ensures)
-    (λ c. search rules)
-    (λ c. let call = c.before.before in by-words _ _ call.before.before.before.before.before.args.refusal 4 (search rules) call.put-bytes4.ensures)
-    (λ c. search rules)
-    (λ c. let call = c.before.before in by-words _ _ call.before.before.before.before.before.args.refusal 5 (search rules) call.put-bytes5.ensures)
-    (λ c. search rules)
-    (λ c. let call = c.before.before in by-words _ _ call.before.before.before.before.before.args.refusal 8 (search rules) call.put-bytes6.ensures)
+    (λ c. let call = c in by-words _ _ call.args.refusal 8 (search rules) call.put_bytes-in-8.ensures)
     no-refusal)

@@ -8,45 +8,45 @@ use Rattle.session.proofs.steps.Opening.{too_long, opens_by, told}
 use Rattle.session.proofs.steps.open.Statement.{statement}
 use Rattle.session.proofs.steps.open.Tie as tie
 
-returns : tie.Need-returns
-returns c = told _ _ (too_long _ _ c.if1.true)
+returns : tie.Need-returns-then-input-gt-LONGEST
+returns c = told _ _ (too_long _ _ c.if-input-gt-LONGEST.true)
 
 read-requires : tie.Need-read-requires
 read-requires c κs = search rules
 
-enum-known-value : tie.Need-enum-known-value
+enum-known-value : tie.Need-enum_known-value
 enum-known-value c = search rules
 
-cast-open-book : tie.Need-overflow-cast-open-book
+cast-open-book : tie.Need-overflow_cast-value
 cast-open-book c = search rules
 
-open-book-requires : tie.Need-open-book-requires
+open-book-requires : tie.Need-open_book-requires
 open-book-requires c κs =
-    let known = c.before.before in
-    (number_ahead _ _ known.before.before.read.ensures.0 known.value.given.1).1
+    let known = c in
+    (number_ahead _ _ known.read.ensures.0 known.in-Number.is).1
 
-enum_told : tie.Need-enum-told
+enum_told : tie.Need-enum_told-1
 enum_told c = search rules
 
-enum-told-2 : tie.Need-enum-told-2
+enum-told-2 : tie.Need-enum_told-in-Invalid
 enum-told-2 c = search rules
 
-same_length : tie.Need-same-length
+same_length : tie.Need-shape_of-area
 same_length c = search rules
 
-returns-2 : tie.Need-returns-2
+returns-2 : tie.Need-returns-in-Number
 returns-2 c =
-    let opened = c.before.before in
-    let known = opened.before.before.before in
-    told _ _ (opens_by _ _ known.before.before.before.if1.false known.before.before.read.ensures.0 known.value.given.1 _ _ opened.open-book.ensures)
+    let opened = c in
+    let known = opened in
+    told _ _ (opens_by _ _ known.if-input-gt-LONGEST.false known.read.ensures.0 known.in-Number.is _ _ opened.open_book.ensures)
 
-returns-3 : tie.Need-returns-3
+returns-3 : tie.Need-returns-in-Cut
 unfolding open_book not_begun
-returns-3 c = told _ _ (opens_by _ _ c.before.before.before.if1.false c.before.before.read.ensures.0 c.enum_told.given.1 _ _ (refl, refl))
+returns-3 c = told _ _ (opens_by _ _ c.if-input-gt-LONGEST.false c.read.ensures.0 c.in-Cut.is _ _ (refl, refl))
 
-returns-4 : tie.Need-returns-4
+returns-4 : tie.Need-returns-in-Invalid
 unfolding open_book not_begun
-returns-4 c = told _ _ (opens_by _ _ c.before.before.before.if1.false c.before.before.read.ensures.0 c.enum-told2.given.1 _ _ (refl, refl))
+returns-4 c = told _ _ (opens_by _ _ c.if-input-gt-LONGEST.false c.read.ensures.0 c.in-Invalid.is _ _ (refl, refl))
 
 pub open_spec : {M : Type 1} → statement M
 open_spec =

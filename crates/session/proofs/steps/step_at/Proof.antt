@@ -7,28 +7,28 @@ use Rattle.session.proofs.steps.Stepping.{told, stays, takes, reports}
 use Rattle.session.proofs.steps.step_at.Statement.{statement}
 use Rattle.session.proofs.steps.step_at.Tie as tie
 
-returns : tie.Need-returns
+returns : tie.Need-returns-in-Ended
 unfolding perform
-returns c = told _ _ _ _ (stays _ _ _ _ c.before.before.command-at.ensures.0 c.enum_told.given.1 _ refl)
+returns c = told _ _ _ _ (stays _ _ _ _ c.command_at.ensures.0 c.in-Ended.is _ refl)
 
-returns-2 : tie.Need-returns-2
+returns-2 : tie.Need-returns-in-Stopped
 unfolding perform
-returns-2 c = let known = c.before in told _ _ _ _ (stays _ _ _ _ known.before.before.command-at.ensures.0 known.n.given.1 _ refl)
+returns-2 c = let known = c in told _ _ _ _ (stays _ _ _ _ known.command_at.ensures.0 known.in-Stopped.is _ refl)
 
-returns-3 : tie.Need-returns-3
+returns-3 : tie.Need-returns-in-Take
 returns-3 c =
-    let done = c.before.before in
-    let known = done.before.before.before in
-    told _ _ _ _ (takes _ _ _ _ known.before.before.command-at.ensures.0 known.step.given.1 done.step2.ensures)
+    let done = c in
+    let known = done in
+    told _ _ _ _ (takes _ _ _ _ known.command_at.ensures.0 known.in-Take.is done.step-answer.ensures)
 
-returns-4 : tie.Need-returns-4
+returns-4 : tie.Need-returns-in-Report
 returns-4 c =
-    let done = c.before.before in
-    let known = done.before.before.before.before in
-    told _ _ _ _ (reports _ _ _ _ known.before.before.command-at.ensures.0 known.next.given.1 done.report.ensures)
+    let done = c in
+    let known = done in
+    told _ _ _ _ (reports _ _ _ _ known.command_at.ensures.0 known.in-Report.is done.report.ensures)
 
-pub step-at-spec : {M : Type 1} → statement M
-step-at-spec =
+pub step_at_spec : {M : Type 1} → statement M
+step_at_spec =
     tie.close
     (tie.spec
     (λ c κs. search rules)

@@ -4,17 +4,17 @@ use Rattle.session.proofs.text.Digits.{byte_laid}
 use Rattle.session.proofs.text.end_line.Statement.{statement}
 use Rattle.session.proofs.text.end_line.Tie as tie
 
-slice-write-text : tie.Need-slice-write-text
+slice-write-text : tie.Need-bounds-text-at
 slice-write-text c = search rules
 
-add-result : tie.Need-overflow-add-result
+add-result : tie.Need-overflow_add-result
 add-result c = search rules
 
-same_length : tie.Need-same-length
+same_length : tie.Need-shape_of-text
 same_length c = search rules
 
 returns : tie.Need-returns
 returns c = byte_laid _ _ _ c.requires
 
-pub end-line-spec : {M : Type 1} → statement M
-end-line-spec = tie.close (tie.spec slice-write-text add-result same_length returns)
+pub end_line_spec : {M : Type 1} → statement M
+end_line_spec = tie.close (tie.spec slice-write-text add-result same_length returns)

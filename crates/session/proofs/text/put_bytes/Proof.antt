@@ -8,40 +8,40 @@ use Rattle.session.proofs.text.Parts.{Some, some_none, some_length, some_within,
 use Rattle.session.proofs.text.put_bytes.Statement.{statement}
 use Rattle.session.proofs.text.put_bytes.Tie as tie
 
-abbrev invariant-loop : tie.invariant-loop
+abbrev invariant-loop : tie.invariant-loop-i
 invariant-loop text₀ at part next₀ i₀ text next i = Some text₀ at part text next i
 
-abbrev decreases-loop : tie.decreases-loop
+abbrev decreases-loop : tie.decreases-loop-i
 decreases-loop text₀ at part next₀ i₀ text next i = length part - i
 
-loop-holds : tie.Need-loop-init invariant-loop decreases-loop
+loop-holds : tie.Need-loop-i-init invariant-loop decreases-loop
 loop-holds c = some_none _ _ _ c.requires
 
-shared-slice-read-text : tie.Need-shared-slice-read-text invariant-loop decreases-loop
+shared-slice-read-text : tie.Need-bounds-part-i invariant-loop decreases-loop
 shared-slice-read-text c = search rules
 
-slice-write-text : tie.Need-slice-write-text invariant-loop decreases-loop
-slice-write-text c = let top = c.before.before in some_within _ _ _ top.loop.invariant c.before.loop-test.true
+slice-write-text : tie.Need-bounds-text-next invariant-loop decreases-loop
+slice-write-text c = let top = c in some_within _ _ _ top.loop-i.invariant c.loop-i-test.true
 
-add-next : tie.Need-overflow-add-next invariant-loop decreases-loop
-add-next c = let top = c.before.before in search (rules, some_within _ _ _ top.loop.invariant c.before.loop-test.true, some_length _ _ _ top.loop.invariant)
+add-next : tie.Need-overflow_add-next invariant-loop decreases-loop
+add-next c = let top = c in search (rules, some_within _ _ _ top.loop-i.invariant c.loop-i-test.true, some_length _ _ _ top.loop-i.invariant)
 
-add-i : tie.Need-overflow-add-i invariant-loop decreases-loop
+add-i : tie.Need-overflow_add-i invariant-loop decreases-loop
 add-i c = search rules
 
-loop-less : tie.Need-loop-smaller invariant-loop decreases-loop
+loop-less : tie.Need-loop-i-smaller invariant-loop decreases-loop
 loop-less c = omega arith
 
-loop-again : tie.Need-loop-preserved invariant-loop decreases-loop
-loop-again c = let top = c.before.before in some_more _ _ _ top.loop.invariant c.before.loop-test.true
+loop-again : tie.Need-loop-i-preserved invariant-loop decreases-loop
+loop-again c = let top = c in some_more _ _ _ top.loop-i.invariant c.loop-i-test.true
 
-same_length : tie.Need-same-length invariant-loop decreases-loop
-same_length c = some_length _ _ _ c.before.loop.invariant
+same_length : tie.Need-shape_of-text invariant-loop decreases-loop
+same_length c = some_length _ _ _ c.loop-i.invariant
 
 returns : tie.Need-returns invariant-loop decreases-loop
-returns c = some_all _ _ _ c.before.loop.invariant c.loop-test.false
+returns c = some_all _ _ _ c.loop-i.invariant c.loop-i-test.false
 
-pub put-bytes-spec : {M : Type 1} → statement M
-put-bytes-spec =
+pub put_bytes_spec : {M : Type 1} → statement M
+put_bytes_spec =
     tie.close
     (tie.spec invariant-loop decreases-loop loop-holds shared-slice-read-text slice-write-text add-next add-i loop-less loop-again same_length returns)

@@ -9,71 +9,71 @@ use Rattle.session.proofs.text.Numbers.{Shown, shown-none, shown-length, shown-r
 use Rattle.session.proofs.text.put_numbers.Statement.{statement}
 use Rattle.session.proofs.text.put_numbers.Tie as tie
 
-abbrev invariant-loop : tie.invariant-loop
+abbrev invariant-loop : tie.invariant-loop-pos
 invariant-loop bytes text₀ at pos₀ next₀ text pos next = Shown bytes text₀ at text next pos
 
-abbrev decreases-loop : tie.decreases-loop
+abbrev decreases-loop : tie.decreases-loop-pos
 decreases-loop bytes text₀ at pos₀ next₀ text pos next = length bytes - pos
 
-loop-holds : tie.Need-loop-init invariant-loop decreases-loop
+loop-holds : tie.Need-loop-pos-init invariant-loop decreases-loop
 loop-holds c = shown-none _ _ _
 
 read-requires : tie.Need-read-requires invariant-loop decreases-loop
 read-requires c κs = search rules
 
-enum-known-value : tie.Need-enum-known-value invariant-loop decreases-loop
+enum-known-value : tie.Need-enum_known-value invariant-loop decreases-loop
 enum-known-value c = search rules
 
-put-spaced-requires : tie.Need-put-spaced-requires invariant-loop decreases-loop
+put-spaced-requires : tie.Need-put_spaced-next-requires invariant-loop decreases-loop
 put-spaced-requires c κs =
-    let at = c.before.before.before.before.before.before in
-    shown-room _ _ _ at.before.before.before.requires _ _ _ at.loop.invariant (omega arith)
+    let at = c in
+    shown-room _ _ _ at.requires _ _ _ at.loop-pos.invariant (omega arith)
 
-loop-less : tie.Need-loop-smaller invariant-loop decreases-loop
+loop-less : tie.Need-loop-pos-smaller invariant-loop decreases-loop
 loop-less c =
-    let known = c.before.before.before.before.before in
-    let ahead = number_ahead _ _ known.before.before.read.ensures.0 known.value.given.1 in
+    let known = c in
+    let ahead = number_ahead _ _ known.read.ensures.0 known.in-Number.is in
     omega (arith, ahead.0, ahead.1)
 
-loop-again : tie.Need-loop-preserved invariant-loop decreases-loop
+loop-again : tie.Need-loop-pos-preserved invariant-loop decreases-loop
 loop-again c =
-    let known = c.before.before.before.before.before in
-    let at = known.before.before.before.before in
-    shown-more _ _ _ at.before.before.before.requires _ _ _ at.loop.invariant known.before.before.read.ensures.0 known.value.given.1 _ _
-    c.before.before.put-spaced.ensures
+    let known = c in
+    let at = known in
+    shown-more _ _ _ at.requires _ _ _ at.loop-pos.invariant known.read.ensures.0 known.in-Number.is _ _
+    c.put_spaced-next.ensures
 
-enum_told : tie.Need-enum-told invariant-loop decreases-loop
+enum_told : tie.Need-enum_told-1 invariant-loop decreases-loop
 enum_told c = search rules
 
-same_length : tie.Need-same-length invariant-loop decreases-loop
+same_length : tie.Need-shape_of-text-in-Cut invariant-loop decreases-loop
 same_length c =
-    let at = c.before.before.before.before in shown-length _ _ _ at.before.before.before.requires _ _ _ at.loop.invariant
+    let at = c in shown-length _ _ _ at.requires _ _ _ at.loop-pos.invariant
 
-returns : tie.Need-returns invariant-loop decreases-loop
+returns : tie.Need-returns-in-Cut invariant-loop decreases-loop
 returns c =
-    let at = c.before.before.before.before in
-    shown_stopped _ _ _ at.before.before.before.requires _ _ _ at.loop.invariant c.before.before.read.ensures.0 c.enum_told.given.1 refl
+    let at = c in
+    shown_stopped _ _ _ at.requires _ _ _ at.loop-pos.invariant c.read.ensures.0 c.in-Cut.is refl
 
-enum-told-2 : tie.Need-enum-told-2 invariant-loop decreases-loop
+enum-told-2 : tie.Need-enum_told-in-Invalid invariant-loop decreases-loop
 enum-told-2 c = search rules
 
-same-length-2 : tie.Need-same-length-2 invariant-loop decreases-loop
+same-length-2 : tie.Need-shape_of-text-in-Invalid invariant-loop decreases-loop
 same-length-2 c =
-    let at = c.before.before.before.before in shown-length _ _ _ at.before.before.before.requires _ _ _ at.loop.invariant
+    let at = c in shown-length _ _ _ at.requires _ _ _ at.loop-pos.invariant
 
-returns-2 : tie.Need-returns-2 invariant-loop decreases-loop
+returns-2 : tie.Need-returns-in-Invalid invariant-loop decreases-loop
 returns-2 c =
-    let at = c.before.before.before.before in
-    shown_stopped _ _ _ at.before.before.before.requires _ _ _ at.loop.invariant c.before.before.read.ensures.0 c.enum-told2.given.1 refl
+    let at = c in
+    shown_stopped _ _ _ at.requires _ _ _ at.loop-pos.invariant c.read.ensures.0 c.in-Invalid.is refl
 
-same-length-3 : tie.Need-same-length-3 invariant-loop decreases-loop
-same-length-3 c = let at = c.before in shown-length _ _ _ at.before.before.before.requires _ _ _ at.loop.invariant
+same-length-3 : tie.Need-shape_of-text invariant-loop decreases-loop
+same-length-3 c = let at = c in shown-length _ _ _ at.requires _ _ _ at.loop-pos.invariant
 
-returns-3 : tie.Need-returns-3 invariant-loop decreases-loop
-returns-3 c = let at = c.before in shown-all _ _ _ at.before.before.before.requires _ _ _ at.loop.invariant (omega arith)
+returns-3 : tie.Need-returns invariant-loop decreases-loop
+returns-3 c = let at = c in shown-all _ _ _ at.requires _ _ _ at.loop-pos.invariant (omega arith)
 
-pub put-numbers-spec : {M : Type 1} → statement M
-put-numbers-spec =
+pub put_numbers_spec : {M : Type 1} → statement M
+put_numbers_spec =
     tie.close
     (tie.spec
     invariant-loop

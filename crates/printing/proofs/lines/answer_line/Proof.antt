@@ -6,20 +6,20 @@ use Rattle.printing.proofs.lines.Printing.{line_prints}
 use Rattle.printing.proofs.lines.answer_line.Statement.{statement}
 use Rattle.printing.proofs.lines.answer_line.Tie as tie
 
-returns : tie.Need-returns
+returns : tie.Need-returns-in-Refused
 unfolding answer_line
-returns c = let put = c.before.before in line_prints answer_line _ _ _ put.before.before.before.before.answer.given.1 refl put.put-line.ensures
+returns c = let put = c in line_prints answer_line _ _ _ put.in-Refused.is refl put.put_line.ensures
 
-returns-2 : tie.Need-returns-2
+returns-2 : tie.Need-returns-in-Added
 unfolding answer_line
-returns-2 c = let put = c.before.before in line_prints answer_line _ _ _ put.before.before.before.before.answer2.given.1 refl put.put-line2.ensures
+returns-2 c = let put = c in line_prints answer_line _ _ _ put.in-Added.is refl put.put_line-in-Added.ensures
 
-returns-3 : tie.Need-returns-3
+returns-3 : tie.Need-returns-in-Bound
 unfolding answer_line
-returns-3 c = let put = c.before.before in line_prints answer_line _ _ _ put.before.before.before.before.answer3.given.1 refl put.put-line3.ensures
+returns-3 c = let put = c in line_prints answer_line _ _ _ put.in-Bound.is refl put.put_line-in-Bound.ensures
 
-pub answer-line-spec : {M : Type 1} → statement M
-answer-line-spec =
+pub answer_line_spec : {M : Type 1} → statement M
+answer_line_spec =
     tie.close
     (tie.spec
     (λ c. search rules)

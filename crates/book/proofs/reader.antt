@@ -1,2 +1,1 @@
-pub mod Apart
 pub mod Below

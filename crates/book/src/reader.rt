@@ -1,7 +1,6 @@
 // A reader of a term (document 01, "The shape of each place"): it is made where the term begins and moves on behind each part, in
-// document 01's order. What takes or makes a reader is proved by a walk of its code, by hand, so it is little: each function takes
-// the reader apart, calls one of module parse on the slice and the position, and gives the reader at the new position. `read_term`,
-// above them, has plain parameters, so its callers need no walk.
+// document 01's order. Each function takes the reader apart, calls one of module parse on the slice and the position, and gives the
+// reader at the new position. `read_term`, above them, has plain parameters.
 
 ghost use Rattle.std.specs.Prelude.{◌≡◌, ◌+◌, ◌*◌, ◌≤◌, length, drop};
 ghost use Rattle.model.specs.Limits.{max_arity};

@@ -13,11 +13,10 @@ use Rattle.table.proofs.visit.Sizes.{SameSizes}
 use Rattle.table.specs.index.Indexing.{ToIndex, IsIndexed}
 
 -- the index leaves the rows, and each of its slices keeps its length
-pub index_sizes : {X : Type 0} {entries lefts rights cells lefts' rights' cells' : List ℕ}
-    → (length lefts' ≡ length lefts) × ((length rights' ≡ length rights) × ((length cells' ≡ length cells) × X))
+pub index_sizes : {entries lefts rights cells lefts' rights' cells' : List ℕ}
+    → length lefts' ≡ length lefts → length rights' ≡ length rights → length cells' ≡ length cells
     → SameSizes entries lefts rights cells entries lefts' rights' cells'
-index_sizes k =
-    record { entries_size = refl; left_size = k.0; right_size = k.1.0; cells_size = k.1.1.0 }
+index_sizes l r k = record { entries_size = refl; left_size = l; right_size = r; cells_size = k }
 
 -- an indexed table stands in its slices
 pub indexed-stands : {names entries lefts rights cells lefts' rights' cells' : List ℕ} {capacity m : ℕ} {b : Book} {β : Bindings} {es : Table}

@@ -9,45 +9,45 @@ use Rattle.archive.proofs.list.OfKind.{kind_tested, Kept, kept_none, kept_more, 
 use Rattle.archive.proofs.list.append_kind.Statement.{statement}
 use Rattle.archive.proofs.list.append_kind.Tie as tie
 
-abbrev invariant-loop : tie.invariant-loop
+abbrev invariant-loop : tie.invariant-loop-t
 invariant-loop rows n variables listed₀ start next₀ t₀ listed next t = Kept rows variables n start listed₀ listed next t
 
-abbrev decreases-loop : tie.decreases-loop
+abbrev decreases-loop : tie.decreases-loop-t
 decreases-loop rows n variables listed₀ start next₀ t₀ listed next t = n - t
 
-loop-holds : tie.Need-loop-init invariant-loop decreases-loop
+loop-holds : tie.Need-loop-t-init invariant-loop decreases-loop
 loop-holds c = kept_none _ _
 
 -- there is a place for a term of the kind
-room : (c : tie.Then1 invariant-loop decreases-loop) → c.before.before.before.loop.next < length c.before.before.before.loop.listed
+room : (c : tie.Then-rows-t invariant-loop decreases-loop) → c.loop-t.next < length c.loop-t.listed
 room c =
-    let l = c.before.before.before in
-    kept_room _ _ l.loop.invariant c.before.before.loop-test.true (kind_tested _ _ _ ∙ c.if1.true) l.before.requires.2
+    let l = c in
+    kept_room _ _ l.loop-t.invariant c.loop-t-test.true (kind_tested _ _ _ ∙ c.if-rows-t.true) l.requires.2
 
-mul-listed : tie.Need-overflow-mul-listed invariant-loop decreases-loop
-mul-listed c = omega (arith, room c, kept_long _ _ c.before.before.before.loop.invariant)
+mul-listed : tie.Need-offset_bounds-listed-next invariant-loop decreases-loop
+mul-listed c = omega (arith, room c, kept_long _ _ c.loop-t.invariant)
 
-slice-write-listed : tie.Need-slice-write-listed invariant-loop decreases-loop
+slice-write-listed : tie.Need-bounds-listed-next invariant-loop decreases-loop
 slice-write-listed c = room c
 
-add-next : tie.Need-overflow-add-next invariant-loop decreases-loop
-add-next c = omega (arith, room c, kept_long _ _ c.before.before.before.loop.invariant)
+add-next : tie.Need-overflow_add-next invariant-loop decreases-loop
+add-next c = omega (arith, room c, kept_long _ _ c.loop-t.invariant)
 
-loop-again : tie.Need-loop-preserved invariant-loop decreases-loop
+loop-again : tie.Need-loop-t-preserved invariant-loop decreases-loop
 loop-again c =
-    let l = c.before.before.before in
-    let more = c.before.before.loop-test.true in
-    ⊎_elim (λ u. rw (u.1, u.2) (kept_more _ _ l.loop.invariant more (kind_tested _ _ _ ∙ u.0.taken)))
-    (λ u. rw (u.1, u.2) (kept_same _ _ l.loop.invariant more (kind_tested _ _ _ ∙ u.0.left))) c.if1.branch
+    let l = c in
+    let more = c.loop-t-test.true in
+    ⊎_elim (λ u. rw (u.listed-is, u.next-is) (kept_more _ _ l.loop-t.invariant more (kind_tested _ _ _ ∙ u.if-rows-t.true)))
+    (λ u. rw (u.listed-is, u.next-is) (kept_same _ _ l.loop-t.invariant more (kind_tested _ _ _ ∙ u.if-rows-t.false))) c.if-rows-t.branch-raw
 
-same_length : tie.Need-same-length invariant-loop decreases-loop
-same_length c = kept_long _ _ c.before.loop.invariant
+same_length : tie.Need-shape_of-listed invariant-loop decreases-loop
+same_length c = kept_long _ _ c.loop-t.invariant
 
 returns : tie.Need-returns invariant-loop decreases-loop
-returns c = kept_all _ _ c.before.loop.invariant c.loop-test.false
+returns c = kept_all _ _ c.loop-t.invariant c.loop-t-test.false
 
-pub append-kind-spec : {M : Type 1} → statement M
-append-kind-spec =
+pub append_kind_spec : {M : Type 1} → statement M
+append_kind_spec =
     tie.close
     (tie.spec
     invariant-loop

@@ -13,56 +13,56 @@ use Rattle.archive.proofs.list.Numbers.{Read, read_none, read_more, read-refused
 use Rattle.archive.proofs.list.read_list.Statement.{statement}
 use Rattle.archive.proofs.list.read_list.Tie as tie
 
-abbrev invariant-loop : tie.invariant-loop
+abbrev invariant-loop : tie.invariant-loop-i
 invariant-loop list n listed₀ next₀ i₀ named₀ listed next i named = (length listed ≡ length listed₀) × Read list n listed next i named
 
-abbrev decreases-loop : tie.decreases-loop
+abbrev decreases-loop : tie.decreases-loop-i
 decreases-loop list n listed₀ next₀ i₀ named₀ listed next i named = n - i
 
-loop-holds : tie.Need-loop-init invariant-loop decreases-loop
-loop-holds c = (refl, read_none c.before.before.requires)
+loop-holds : tie.Need-loop-i-init invariant-loop decreases-loop
+loop-holds c = (refl, read_none c.requires)
 
-slice-write-listed : tie.Need-slice-write-listed invariant-loop decreases-loop
-slice-write-listed c = omega (arith, c.before.before.before.before.before.loop.invariant.1.long)
+slice-write-listed : tie.Need-bounds-listed-i invariant-loop decreases-loop
+slice-write-listed c = omega (arith, c.loop-i.invariant.1.long)
 
-returns : tie.Need-returns invariant-loop decreases-loop
+returns : tie.Need-returns-in-Cut invariant-loop decreases-loop
 unfolding outcome
 returns c =
-    let l = c.before.before.before.before.loop.invariant.1 in
-    read-refused l c.before.before.before.loop-test.true 1
-    (number-answered _ _ c.before.before.read.ensures.0 c.enum_told.given.1)
+    let l = c.loop-i.invariant.1 in
+    read-refused l c.loop-i-test.true 1
+    (number-answered _ _ c.read.ensures.0 c.in-Cut.is)
 
-returns-2 : tie.Need-returns-2 invariant-loop decreases-loop
+returns-2 : tie.Need-returns-in-Invalid invariant-loop decreases-loop
 unfolding outcome
 returns-2 c =
-    let l = c.before.before.before.before.loop.invariant.1 in
-    read-refused l c.before.before.before.loop-test.true 2
-    (number-answered _ _ c.before.before.read.ensures.0 c.enum-told2.given.1)
+    let l = c.loop-i.invariant.1 in
+    read-refused l c.loop-i-test.true 2
+    (number-answered _ _ c.read.ensures.0 c.in-Invalid.is)
 
-loop-again : tie.Need-loop-preserved invariant-loop decreases-loop
+loop-again : tie.Need-loop-i-preserved invariant-loop decreases-loop
 loop-again c =
-    let l = c.before.before.before.before.before.before.loop in
-    let number = number-answered _ _ c.before.before.before.before.read.ensures.0 c.before.before.value.given.1 in
-    let more = read_more l.invariant.1 c.before.before.before.before.before.loop-test.true _ _ number in (
+    let l = c.loop-i in
+    let number = number-answered _ _ c.read.ensures.0 c.in-Number.is in
+    let more = read_more l.invariant.1 c.loop-i-test.true _ _ number in (
       rw length-set l.invariant.0,
-      ⊎_elim (λ u. more _ (rw (u.1, le-ltb _ _ u.0.taken, and-false)))
-          (λ u. more _ (rw (u.1, lt-ltb _ _ u.0.left, and-true))) c.if1.branch,
+      ⊎_elim (λ u. more _ (rw (u.named-is, le-ltb _ _ u.if-n-value.true, and-false)))
+          (λ u. more _ (rw (u.named-is, lt-ltb _ _ u.if-n-value.false, and-true))) c.if-n-value.branch-raw,
     )
 
-returns-3 : tie.Need-returns-3 invariant-loop decreases-loop
+returns-3 : tie.Need-returns-then-next-list invariant-loop decreases-loop
 unfolding outcome
-returns-3 c = read_left c.before.before.loop.invariant.1 c.before.loop-test.false c.if2.true
+returns-3 c = read_left c.loop-i.invariant.1 c.loop-i-test.false c.if-next-list.true
 
-returns-4 : tie.Need-returns-4 invariant-loop decreases-loop
+returns-4 : tie.Need-returns-then-not-named invariant-loop decreases-loop
 unfolding outcome
-returns-4 c = read_unnamed c.before.before.before.loop.invariant.1 c.before.before.loop-test.false c.before.if2.false (not-true _ c.if3.true)
+returns-4 c = read_unnamed c.loop-i.invariant.1 c.loop-i-test.false c.if-next-list.false (not-true _ c.if-not-named.true-raw)
 
-returns-5 : tie.Need-returns-5 invariant-loop decreases-loop
+returns-5 : tie.Need-returns invariant-loop decreases-loop
 unfolding outcome
-returns-5 c = read_named c.before.before.before.loop.invariant.1 c.before.before.loop-test.false c.before.if2.false (not-false _ c.if3.false)
+returns-5 c = read_named c.loop-i.invariant.1 c.loop-i-test.false c.if-next-list.false (not-false _ c.if-not-named.false-raw)
 
-pub read-list-spec : {M : Type 1} → statement M
-read-list-spec =
+pub read_list_spec : {M : Type 1} → statement M
+read_list_spec =
     tie.close
     (tie.spec
     invariant-loop

@@ -21,32 +21,32 @@ use Rattle.archive.proofs.restoring.restore.Statement.{statement}
 use Rattle.archive.proofs.restoring.restore.Tie as tie
 
 -- what is known behind the test
-known : (c : tie.Else1) →
-    let s = c.before.before.before.before.before.before.before.before.before.before.before.before.before.before.before.before.before.before.before.before.before in
+known : (c : tie.Else-refusal-ne0) →
+    let s = c in
     let lim = limits_of s.args.lim in
     let p = parse_restored lim s.args.book.now s.args.list.now in
-    Decoded (term_words * lim.max_terms) p c.before.before.before.before.before.before.before.before.before.decode-restored.new.1.1.1.1.1.1.0 c.before.before.before.before.before.before.before.before.before.decode-restored.result.terms (map (λ (n : Node). none) (decoded_book p))
+    Decoded (term_words * lim.max_terms) p c.decode_restored-decoded.new.moved c.decode_restored-decoded.result.terms (map (λ (n : Node). none) (decoded_book p))
 known c =
-    let d = c.before.before.before.before.before.before.before.before.before.decode-restored in
-    restored_decoded _ c.before.before.before.before.before.before.before.before.before.before.before.before.before.before.before.before.before.before.before.before.before.requires.0 _ _ _ _ (sym d.ensures.0 ∙ c.if1.false) d.ensures.1.0 (d.ensures.1.1.1 c.if1.false)
+    let d = c.decode_restored-decoded in
+    restored_decoded _ c.requires.0 _ _ _ _ (sym d.ensures.0 ∙ c.if-refusal-ne0.false) d.ensures.1.0 (d.ensures.1.1.1 c.if-refusal-ne0.false)
 
-returns : tie.Need-returns
+returns : tie.Need-returns-then-refusal-ne0
 unfolding call_restore
-returns c = copied_refused _ _ _ c.before.before.before.before.before.before.before.before.before.decode-restored.ensures.0 c.if1.true
+returns c = copied_refused _ _ _ c.decode_restored-decoded.ensures.0 c.if-refusal-ne0.true
 
-write-measured-requires : tie.Need-write-measured-requires
+write-measured-requires : tie.Need-write_measured-requires
 write-measured-requires c κs =
-    let e = c.before.before.before.before in
-    let d = (known e).held in
-    let bytes = e.before.before.before.before.before.before.before.before.before.decode-restored.ensures.1.1.0 e.if1.false in
+    let e = c in
+    let d = (known e.before.before.before).held in
+    let bytes = e.decode_restored-decoded.ensures.1.1.0 e.if-refusal-ne0.false in
     (held-encodable d, omega (arith, held-few d), bytes ∙ ap (λ b. length (book_bytes b)) (sym (held-book d)))
 
-returns-2 : tie.Need-returns-2
+returns-2 : tie.Need-returns
 unfolding call_restore
-returns-2 c = copied _ _ (restored_positive _ _ _) (known c.before.before.before.before.before.before.before) c.before.before.write-measured.ensures
+returns-2 c = copied _ _ (restored_positive _ _ _) (known c.before.before.before.before.before.before) c.write_measured.ensures
 
-pub restore-spec : {M : Type 1} → statement M
-restore-spec =
+pub restore_spec : {M : Type 1} → statement M
+restore_spec =
     tie.close
     (tie.spec
     (λ c κs. search rules)

@@ -20,80 +20,76 @@ use Rattle.archive.proofs.storing.Storing.{listed-room, places-room, moved-room,
 use Rattle.archive.proofs.storing.store.Statement.{statement}
 use Rattle.archive.proofs.storing.store.Tie as tie
 
--- what the decoder leaves, behind the test of its refusal
-abbrev start : tie.Else1 → tie.Start
-start c = c.before.before.before.before.before.before.before.before.before.before.before.before
-
-known : (c : tie.Else1) →
-    let lim = limits_of (start c).args.lim in
-    let p = parse_book lim (start c).args.book.now in
-    Decoded (term_words * lim.max_terms) p c.before.before.before.decode.new.1.1.0 c.before.before.before.decode.result.terms (map (λ (n : Node). none) (decoded_book p))
+known : (c : tie.Else-refusal-ne0) →
+    let lim = limits_of c.args.lim in
+    let p = parse_book lim c.args.book.now in
+    Decoded (term_words * lim.max_terms) p c.decode-decoded.new.rows c.decode-decoded.result.terms (map (λ (n : Node). none) (decoded_book p))
 known c =
-    let d = c.before.before.before.decode in
-    book_decoded _ (start c).requires.0 _ _ _ (sym d.ensures.0 ∙ c.if1.false) d.ensures.1.0 (d.ensures.1.1 c.if1.false)
+    let d = c.decode-decoded in
+    book_decoded _ c.requires.0 _ _ _ (sym d.ensures.0 ∙ c.if-refusal-ne0.false) d.ensures.1.0 (d.ensures.1.1 c.if-refusal-ne0.false)
 
-returns : tie.Need-returns
-returns c = store_refused _ _ _ _ _ c.before.before.before.decode.ensures.0 c.if1.true
+returns : tie.Need-returns-then-refusal-ne0
+returns c = store_refused _ _ _ _ _ c.decode-decoded.ensures.0 c.if-refusal-ne0.true
 
-variables-first-requires : tie.Need-variables-first-requires
+variables-first-requires : tie.Need-variables_first-requires
 variables-first-requires c κs =
-    let e = c.before.before.before in
-    let s = start e in
-    let n = decoded_few _ _ (known e) in
-    (held_rows (known e).held, omega (arith, n, s.pre.0.terms), omega (arith, n, listed-room s.pre.1))
+    let e = c in
+    let s = e in
+    let n = decoded_few _ _ (known e.before.before) in
+    (held_rows (known e.before.before).held, omega (arith, n, s.requires.0.terms), omega (arith, n, listed-room s.requires.1))
 
 invert-requires : tie.Need-invert-requires
 invert-requires c κs =
-    let e = c.before.before.before.before.before.before.before.before in
-    let s = start e in
-    let n = decoded_few _ _ (known e) in
-    let list = c.before.before.before.before.variables_first.ensures in
-    let long = listed-long _ _ (known e) s.pre.0 _ _ s.pre.1.listed_zero list in
-    (omega (arith, n, long), omega (arith, n, places-room s.pre.1), omega (arith, n, s.pre.0.terms), listed-low _ _ (known e) s.pre.0 _ _ s.pre.1.listed_zero list)
+    let e = c in
+    let s = e in
+    let n = decoded_few _ _ (known e.before.before.before.before.before.before) in
+    let list = c.variables_first.ensures in
+    let long = listed-long _ _ (known e.before.before.before.before.before.before) s.requires.0 _ _ s.requires.1.listed_zero list in
+    (omega (arith, n, long), omega (arith, n, places-room s.requires.1), omega (arith, n, s.requires.0.terms), listed-low _ _ (known e.before.before.before.before.before.before) s.requires.0 _ _ s.requires.1.listed_zero list)
 
 -- the list names no term twice, so it has an inverse
-places : (c : tie.After-invert) → let e = c.before.before.before.before.before.before.before.before.before in Inverse c.before.before.before.before.before.before.before.before.before.before.before.before.decode.result.terms (take c.before.before.before.before.before.before.before.before.before.before.before.before.decode.result.terms c.before.before.before.before.before.variables_first.new.1.1.0) c.invert.new.1.1.0
+places : (c : tie.After-invert) → let e = c in Inverse c.decode-decoded.result.terms (take c.decode-decoded.result.terms c.variables_first.new.listed) c.invert.new.places
 places c =
-    let e = c.before.before.before.before.before.before.before.before.before in
-    let s = start e in
-    let list = c.before.before.before.before.before.variables_first.ensures in
-    c.invert.ensures.1 (c.invert.ensures.0 ∙ distinct _ _ (known e) s.pre.0 _ _ s.pre.1.listed_zero list)
+    let e = c in
+    let s = e in
+    let list = c.variables_first.ensures in
+    c.invert.ensures.1 (c.invert.ensures.0 ∙ distinct _ _ (known e.before.before.before.before.before.before.before) s.requires.0 _ _ s.requires.1.listed_zero list)
 
-move-terms-requires : tie.Need-move-terms-requires
+move-terms-requires : tie.Need-move_terms-found-requires
 move-terms-requires c κs =
-    let e = c.before.before.before.before.before.before.before.before.before.before.before.before.before.before.before in
-    let s = start e in
-    let list = c.before.before.before.before.before.before.before.before.before.before.before.variables_first.ensures in
-    let room = c.before.before.before.before.before.before.invert.auto.1.1.0 ∙ places-room s.pre.1 in (
-      lists_moved _ _ (known e) s.pre.0 _ _ s.pre.1.listed_zero list _ room,
-      omega (arith, decoded_few _ _ (known e), moved-room s.pre.1),
-      moved-blank s.pre.1,
-      omega (arith, decoded_few _ _ (known e), s.pre.0.terms),
+    let e = c in
+    let s = e in
+    let list = c.variables_first.ensures in
+    let room = c.invert.auto.places ∙ places-room s.requires.1 in (
+      lists_moved _ _ (known e.before.before.before.before.before.before.before.before.before.before) s.requires.0 _ _ s.requires.1.listed_zero list _ room,
+      omega (arith, decoded_few _ _ (known e.before.before.before.before.before.before.before.before.before.before), moved-room s.requires.1),
+      moved-blank s.requires.1,
+      omega (arith, decoded_few _ _ (known e.before.before.before.before.before.before.before.before.before.before), s.requires.0.terms),
     )
 
-write-both-requires : tie.Need-write-both-requires
+write-both-requires : tie.Need-write_both-requires
 write-both-requires c κs =
-    let e = c.before.before.before.before.before.before.before.before.before.before.before.before.before.before.before.before.before.before.before.before.before.before.before.before in
-    let s = start e in
-    let list = c.before.before.before.before.before.before.before.before.before.before.before.before.before.before.before.before.before.before.before.before.variables_first.ensures in
-    let h = stored_held _ _ (known e) s.pre.0 _ _ s.pre.1.listed_zero list _ (places c.before.before.before.before.before.before.before.before.before.before.before.before.before.before.before) _ _ s.pre.1.moved_zero c.before.before.before.before.before.before.before.before.move-terms.ensures.1.1 in (
+    let e = c in
+    let s = e in
+    let list = c.variables_first.ensures in
+    let h = stored_held _ _ (known e.before.before.before.before.before.before.before.before.before.before.before.before.before.before.before.before.before) s.requires.0 _ _ s.requires.1.listed_zero list _ (places c.before.before.before.before.before.before.before.before.before.before) _ _ s.requires.1.moved_zero c.move_terms-found.ensures.1.1 in (
       held-encodable h,
       omega (arith, held-few h),
-      stored_bytes_lem _ _ (known e) s.pre.0 _ _ s.pre.1.listed_zero list _ (places c.before.before.before.before.before.before.before.before.before.before.before.before.before.before.before) _ _ s.pre.1.moved_zero c.before.before.before.before.before.before.before.before.move-terms.ensures.1.1 c.before.before.before.before.before.before.before.before.move-terms.ensures.1.0,
-      omega (arith, decoded_few _ _ (known e), listed-long _ _ (known e) s.pre.0 _ _ s.pre.1.listed_zero list),
-      small-list _ _ (known e) s.pre.0 _ _ s.pre.1.listed_zero list,
+      stored_bytes_lem _ _ (known e.before.before.before.before.before.before.before.before.before.before.before.before.before.before.before.before.before) s.requires.0 _ _ s.requires.1.listed_zero list _ (places c.before.before.before.before.before.before.before.before.before.before) _ _ s.requires.1.moved_zero c.move_terms-found.ensures.1.1 c.move_terms-found.ensures.1.0,
+      omega (arith, decoded_few _ _ (known e.before.before.before.before.before.before.before.before.before.before.before.before.before.before.before.before.before), listed-long _ _ (known e.before.before.before.before.before.before.before.before.before.before.before.before.before.before.before.before.before) s.requires.0 _ _ s.requires.1.listed_zero list),
+      small-list _ _ (known e.before.before.before.before.before.before.before.before.before.before.before.before.before.before.before.before.before) s.requires.0 _ _ s.requires.1.listed_zero list,
     )
 
-same-length-2 : tie.Need-same-length-2
-same-length-2 c = c.before.before.before.before.before.before.before.before.before.before.before.before.before.before.before.before.before.before.before.before.before.before.before.before.before.before.before.before.before.before.before.before.decode.auto.1.1.0
+same-length-2 : tie.Need-shape_of-rows
+same-length-2 c = c.decode-decoded.auto.rows
 
-returns-2 : tie.Need-returns-2
+returns-2 : tie.Need-returns
 returns-2 c =
-    let e = c.before.before.before.before.before.before.before.before.before.before.before.before.before.before.before.before.before.before.before.before.before.before.before.before.before.before.before.before.before in
-    let s = start e in
-    let list = c.before.before.before.before.before.before.before.before.before.before.before.before.before.before.before.before.before.before.before.before.before.before.before.before.before.variables_first.ensures in
-    stored_written _ _ (known e) s.pre.0 _ _ s.pre.1.listed_zero list _ (places c.before.before.before.before.before.before.before.before.before.before.before.before.before.before.before.before.before.before.before.before) _ _ s.pre.1.moved_zero c.before.before.before.before.before.before.before.before.before.before.before.before.before.move-terms.ensures.1.1 _ _
-    c.before.before.before.before.write-both.ensures
+    let e = c in
+    let s = e in
+    let list = c.variables_first.ensures in
+    stored_written _ _ (known e.before.before.before.before.before.before.before.before.before.before.before.before.before.before.before.before.before.before.before.before.before.before) s.requires.0 _ _ s.requires.1.listed_zero list _ (places c.before.before.before.before.before.before.before.before.before.before.before.before.before.before.before) _ _ s.requires.1.moved_zero c.move_terms-found.ensures.1.1 _ _
+    c.write_both.ensures
 
 pub store_spec : {M : Type 1} → statement M
 store_spec =

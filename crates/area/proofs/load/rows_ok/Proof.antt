@@ -6,45 +6,45 @@ use Rattle.soundness.specs.sound.Sound.{rows_ok}
 use Rattle.area.proofs.load.rows_ok.Statement.{statement}
 use Rattle.area.proofs.load.rows_ok.Tie as tie
 
-returns : tie.Need-returns
+returns : tie.Need-returns-then-not-term_rows_ok
 unfolding rows_ok
-returns c = rw (sym c.before.term-rows-ok.ensures ∙ not-true _ c.if1.true)
+returns c = rw (sym c.term_rows_ok.ensures ∙ not-true _ c.if-not-term_rows_ok.true-raw)
 
-returns-2 : tie.Need-returns-2
+returns-2 : tie.Need-returns-then-not-bindings_ok
 unfolding rows_ok
 returns-2 c =
-    let first = c.before.before in
+    let first = c in
     rw (
-      sym first.before.term-rows-ok.ensures ∙ not-false _ first.if1.false,
-      sym c.before.bindings-ok.ensures ∙ not-true _ c.if2.true,
+      sym first.term_rows_ok.ensures ∙ not-false _ first.if-not-term_rows_ok.false-raw,
+      sym c.bindings_ok.ensures ∙ not-true _ c.if-not-bindings_ok.true-raw,
     )
 
-returns-3 : tie.Need-returns-3
+returns-3 : tie.Need-returns-then-not-lines_ok
 unfolding rows_ok
 returns-3 c =
-    let second = c.before.before.before.before in
-    let first = second.before.before in
+    let second = c in
+    let first = second in
     rw (
-      sym first.before.term-rows-ok.ensures ∙ not-false _ first.if1.false,
-      sym second.before.bindings-ok.ensures ∙ not-false _ second.if2.false,
-      sym c.before.lines_ok.ensures ∙ not-true _ c.if3.true,
+      sym first.term_rows_ok.ensures ∙ not-false _ first.if-not-term_rows_ok.false-raw,
+      sym second.bindings_ok.ensures ∙ not-false _ second.if-not-bindings_ok.false-raw,
+      sym c.lines_ok.ensures ∙ not-true _ c.if-not-lines_ok.true-raw,
     )
 
-returns-4 : tie.Need-returns-4
+returns-4 : tie.Need-returns
 unfolding rows_ok
 returns-4 c =
-    let third = c.before in
-    let second = third.before.before.before.before in
-    let first = second.before.before in
+    let third = c in
+    let second = third in
+    let first = second in
     rw (
-      sym first.before.term-rows-ok.ensures ∙ not-false _ first.if1.false,
-      sym second.before.bindings-ok.ensures ∙ not-false _ second.if2.false,
-      sym third.before.lines_ok.ensures ∙ not-false _ third.if3.false,
+      sym first.term_rows_ok.ensures ∙ not-false _ first.if-not-term_rows_ok.false-raw,
+      sym second.bindings_ok.ensures ∙ not-false _ second.if-not-bindings_ok.false-raw,
+      sym third.lines_ok.ensures ∙ not-false _ third.if-not-lines_ok.false-raw,
     )
-    c.entry-rows-ok.ensures
+    c.entry_rows_ok.ensures
 
-pub rows-ok-spec : {M : Type 1} → statement M
-rows-ok-spec =
+pub rows_ok_spec : {M : Type 1} → statement M
+rows_ok_spec =
     tie.close
     (tie.spec
     (λ c. search rules)

@@ -11,7 +11,7 @@ use Rattle.area.proofs.save.JustOpened.{laid-opened}
 use Rattle.area.proofs.save.opened.Statement.{statement}
 use Rattle.area.proofs.save.opened.Tie as tie
 
-store-header-requires : tie.Need-store-header-requires
+store-header-requires : tie.Need-store_header-requires
 unfolding area_length
 store-header-requires c κs = omega arith
 
@@ -19,10 +19,10 @@ store-requires : tie.Need-store-requires
 unfolding area_length
 store-requires c κs = omega arith
 
-bindings-at-requires : tie.Need-bindings-at-requires
+bindings-at-requires : tie.Need-bindings_at-requires
 bindings-at-requires c κs = search rules
 
-mul-clear : tie.Need-overflow-mul-clear
+mul-clear : tie.Need-overflow_mul-bindings_at
 unfolding area_length
 mul-clear c = omega arith
 
@@ -30,22 +30,22 @@ clear-requires : tie.Need-clear-requires
 unfolding area_length
 clear-requires c κs = omega arith
 
-same_length : tie.Need-same-length
+same_length : tie.Need-shape_of-area
 same_length c = search rules
 
 returns : tie.Need-returns
 unfolding words_of
 returns c =
-    let bound = c.before.before.before in
-    let stored = bound.before.before.before.before in
-    let headed = stored.before.before.before.before in
-    let s = headed.before.before.before.before in
+    let bound = c in
+    let stored = bound in
+    let headed = stored in
+    let s = headed in
     let rows = s.args.rows.now in
-    let parts = stored.store.ensures ∙ ap (λ area. laid area header_words rows) headed.store-header.ensures in
-    let start = ap (λ n. word_size * n) bound.bindings-at.ensures in
-    c.before.before.clear.ensures ∙ rw (parts, start, s.requires.1)
+    let parts = stored.store.ensures ∙ ap (λ area. laid area header_words rows) headed.store_header.ensures in
+    let start = ap (λ n. word_size * n) bound.bindings_at.ensures in
+    c.clear.ensures ∙ rw (parts, start, s.requires.1)
     (laid-opened (limits_of s.args.lim) s.args.capacity s.args.terms rows s.args.area.now s.requires.3)
 
-pub opened-spec : {M : Type 1} → statement M
-opened-spec =
+pub opened_spec : {M : Type 1} → statement M
+opened_spec =
     tie.close (tie.spec store-header-requires store-requires bindings-at-requires mul-clear clear-requires same_length returns)

@@ -12,26 +12,26 @@ use Rattle.office.proofs.books.Written.{book_seven, read_held, written-book}
 use Rattle.office.proofs.books.write.Statement.{statement}
 use Rattle.office.proofs.books.write.Tie as tie
 
-returns : tie.Need-returns
-returns c = book_seven _ _ (sym c.before.before.before.before.before.read.ensures.0 ∙ not-true _ c.if1.true)
+returns : tie.Need-returns-then-not-read
+returns c = book_seven _ _ (sym c.read.ensures.0 ∙ not-true _ c.if-not-read.true-raw)
 
-load-header-requires : tie.Need-load-header-requires
+load-header-requires : tie.Need-load_header-h-requires
 load-header-requires c κs =
-    sound_header office _ (true_T _ (sym c.before.before.before.before.before.read.ensures.0 ∙ not-false _ c.if1.false))
+    sound_header office _ (true_T _ (sym c.read.ensures.0 ∙ not-false _ c.if-not-read.false-raw))
 
-write-book-requires : tie.Need-write-book-requires
+write-book-requires : tie.Need-write_book-requires
 write-book-requires c κs =
-    let h = c.before.before.before.before in
-    let e = h.before in
-    let d = read_held (e.before.before.before.before.before.read.ensures.1 (not-false _ e.if1.false)) _ h.load-header.ensures.1 in (held-encodable d, omega (arith, held-few d))
+    let h = c in
+    let e = h in
+    let d = read_held (e.read.ensures.1 (not-false _ e.if-not-read.false-raw)) _ h.load_header-h.ensures.1 in (held-encodable d, omega (arith, held-few d))
 
-returns-2 : tie.Need-returns-2
+returns-2 : tie.Need-returns
 returns-2 c =
-    let h = c.before.before.before.before.before.before.before in
-    let e = h.before in
-    let test = e.before.before.before.before.before.read.ensures in
-    let yes = not-false _ e.if1.false in
-    written-book (test.1 yes) _ h.load-header.ensures.1 (sym test.0 ∙ yes) _ c.before.before.write-book.ensures
+    let h = c in
+    let e = h in
+    let test = e.read.ensures in
+    let yes = not-false _ e.if-not-read.false-raw in
+    written-book (test.1 yes) _ h.load_header-h.ensures.1 (sym test.0 ∙ yes) _ c.write_book.ensures
 
 pub write_spec : {M : Type 1} → statement M
 write_spec =

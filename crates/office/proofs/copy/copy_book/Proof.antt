@@ -20,28 +20,28 @@ use Rattle.office.proofs.copy.copy_book.Statement.{statement}
 use Rattle.office.proofs.copy.copy_book.Tie as tie
 
 -- what is known behind the test
-rows-decoded : (c : tie.Else1) →
-    let p = parse_book office c.before.before.before.before.before.before.args.book.now in
-    Decoded (term_words * office.max_terms) p c.before.before.decode.new.1.1.0 c.before.before.decode.result.terms (map (λ (n : Node). none) (decoded_book p))
+rows-decoded : (c : tie.Else-refusal-ne0) →
+    let p = parse_book office c.args.book.now in
+    Decoded (term_words * office.max_terms) p c.decode-decoded.new.rows c.decode-decoded.result.terms (map (λ (n : Node). none) (decoded_book p))
 rows-decoded c =
-    let d = c.before.before.decode in
-    book_decoded office office-modest _ _ _ (sym d.ensures.0 ∙ c.if1.false) d.ensures.1.0 (d.ensures.1.1 c.if1.false)
+    let d = c.decode-decoded in
+    book_decoded office office-modest _ _ _ (sym d.ensures.0 ∙ c.if-refusal-ne0.false) d.ensures.1.0 (d.ensures.1.1 c.if-refusal-ne0.false)
 
-returns : tie.Need-returns
+returns : tie.Need-returns-then-refusal-ne0
 unfolding call_copy
-returns c = copied_refused _ _ _ c.before.before.decode.ensures.0 c.if1.true
+returns c = copied_refused _ _ _ c.decode-decoded.ensures.0 c.if-refusal-ne0.true
 
-write-book-requires : tie.Need-write-book-requires
+write-book-requires : tie.Need-write_book-requires
 write-book-requires c κs =
     let d = (rows-decoded c.before.before.before.before).held in (held-encodable d, omega (arith, held-few d))
 
-returns-2 : tie.Need-returns-2
+returns-2 : tie.Need-returns
 unfolding call_copy
 returns-2 c =
-    copied _ _ (book_positive office _) (rows-decoded c.before.before.before.before.before.before.before) c.before.before.write-book.ensures
+    copied _ _ (book_positive office _) (rows-decoded c.before.before.before.before.before.before.before) c.write_book.ensures
 
-pub copy-book-spec : {M : Type 1} → statement M
-copy-book-spec =
+pub copy_book_spec : {M : Type 1} → statement M
+copy_book_spec =
     tie.close
     (tie.spec
     (λ c. search rules)

@@ -15,38 +15,38 @@ use Rattle.office.proofs.entry.entry.Statement.{statement}
 use Rattle.office.proofs.entry.entry.Tie as tie
 
 -- past the first test the area is sound, and its rows are loaded
-is-sound : (e : tie.Else1) → sound office e.before.before.before.before.before.before.before.before.before.before.before.before.args.area.now ≡ true
-is-sound e = sym e.before.before.before.before.before.read.ensures.0 ∙ not-false _ e.if1.false
+is-sound : (e : tie.Else-not-read) → sound office e.args.area.now ≡ true
+is-sound e = sym e.read.ensures.0 ∙ not-false _ e.if-not-read.false-raw
 
-is_held : (e : tie.Else1) → let r = e.before.before.before.before.before.read.new in Viewed e.before.before.before.before.before.before.before.before.before.before.before.before.args.area.now r.1.0 r.1.1.0 r.1.1.1.0 r.1.1.1.1.0
-is_held e = e.before.before.before.before.before.read.ensures.1 (not-false _ e.if1.false)
+is_held : (e : tie.Else-not-read) → let r = e.read.new in Viewed e.args.area.now r.rows r.names r.lines r.entries
+is_held e = e.read.ensures.1 (not-false _ e.if-not-read.false-raw)
 
 -- past the second there is such an entry
-is-there : (e : tie.Else2) → let s = e.before.before.before.before.before.before.before.before.before.before.before.before.before.before.before in s.args.i < word s.args.area.now 2
-is-there e = omega (arith, e.if2.false, e.before.before.load-header.ensures.2)
+is-there : (e : tie.Else-h-i) → let s = e in s.args.i < word s.args.area.now 2
+is-there e = omega (arith, e.if-h-i.false, e.load_header-h.ensures.2)
 
-returns : tie.Need-returns
-returns c = entry_seven _ _ _ (sym c.before.before.before.before.before.read.ensures.0 ∙ not-true _ c.if1.true)
+returns : tie.Need-returns-then-not-read
+returns c = entry_seven _ _ _ (sym c.read.ensures.0 ∙ not-true _ c.if-not-read.true-raw)
 
-load-header-requires : tie.Need-load-header-requires
+load-header-requires : tie.Need-load_header-h-requires
 load-header-requires c κs = sound_header office _ (true_T _ (is-sound c))
 
-returns-2 : tie.Need-returns-2
+returns-2 : tie.Need-returns-then-h-i
 returns-2 c =
-    let e = c.before.before.before in
-    entry_eight _ _ _ (is-sound e) (read-entries (is_held e).read) (omega (arith, c.if2.true, c.before.before.load-header.ensures.2))
+    let e = c in
+    entry_eight _ _ _ (is-sound e.before.before.before) (read-entries (is_held e.before.before.before).read) (omega (arith, c.if-h-i.true, c.load_header-h.ensures.2))
 
-entry-at-requires : tie.Need-entry-at-requires
+entry-at-requires : tie.Need-entry_at-entry-requires
 entry-at-requires c κs =
-    let there = c.before in
-    entry-within _ (is_held there.before.before.before).read _ (is-there there)
+    let there = c in
+    entry-within _ (is_held there.before.before.before.before).read _ (is-there there.before)
 
-returns-3 : tie.Need-returns-3
+returns-3 : tie.Need-returns
 returns-3 c =
-    let there = c.before.before.before in
-    let e = there.before.before.before in
-    entry-there _ _ _ (is-sound e) (read-entries (is_held e).read) (is-there there) _
-    (c.row_of.ensures ∙ c.before.entry_at.ensures ∙ entry_row _ (is_held e).read _ (is-there there))
+    let there = c in
+    let e = there in
+    entry-there _ _ _ (is-sound e.before.before.before.before.before.before) (read-entries (is_held e.before.before.before.before.before.before).read) (is-there there.before.before.before) _
+    (c.row_of.ensures ∙ c.entry_at-entry.ensures ∙ entry_row _ (is_held e.before.before.before.before.before.before).read _ (is-there there.before.before.before))
 
 pub entry_spec : {M : Type 1} → statement M
 entry_spec =

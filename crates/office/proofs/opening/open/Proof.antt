@@ -16,77 +16,77 @@ use Rattle.office.proofs.opening.open.Statement.{statement}
 use Rattle.office.proofs.opening.open.Tie as tie
 
 -- past the first test the capacity lies in its range, and the length asked for is the needed one
-ranged : (e : tie.Else1) → in_range e.before.before.before.before.args.capacity ≡ true
+ranged : (e : tie.Else-needed-eq0) → in_range e.args.capacity ≡ true
 ranged e =
-    some_in_range e.before.before.before.before.args.capacity (λ z. e.if1.false (e.before.area-length.ensures ∙ z))
+    some_in_range e.args.capacity (λ z. e.if-needed-eq0.false (e.area_length-needed.ensures ∙ z))
 
-needed : (e : tie.Else1) → e.before.area-length.result ≡ area_length office e.before.before.before.before.args.capacity
-needed e = e.before.area-length.ensures ∙ length_of e.before.before.before.before.args.capacity (ranged e)
+needed : (e : tie.Else-needed-eq0) → e.area_length-needed.result ≡ area_length office e.args.capacity
+needed e = e.area_length-needed.ensures ∙ length_of e.args.capacity (ranged e)
 
 -- past the second the area is long enough
-roomy : (e : tie.Else2) →
-    let s = e.before.before.before.before.before in area_length office s.args.capacity ≤ length s.args.area.now
-roomy e = subst (λ n. n ≤ length e.before.before.before.before.before.args.area.now) (needed e.before) e.if2.false
+roomy : (e : tie.Else-area-needed) →
+    let s = e in area_length office s.args.capacity ≤ length s.args.area.now
+roomy e = subst (λ n. n ≤ length e.args.area.now) (needed e.before) e.if-area-needed.false
 
-area-length-requires : tie.Need-area-length-requires
+area-length-requires : tie.Need-area_length-needed-requires
 area-length-requires c κs = search rules
 
-returns : tie.Need-returns
+returns : tie.Need-returns-then-needed-eq0
 unfolding refuse
 returns c =
-    let s = c.before.before.before.before in
+    let s = c in
     let e = open_four s.args.capacity s.args.book.now s.args.area.now
-    (none_out_of_range s.args.capacity (sym c.before.area-length.ensures ∙ c.if1.true)) in
+    (none_out_of_range s.args.capacity (sym c.area_length-needed.ensures ∙ c.if-needed-eq0.true)) in
     (sym (ap (λ o. o.refusal) e), sym (ap (λ o. o.area) e))
 
-returns-2 : tie.Need-returns-2
+returns-2 : tie.Need-returns-then-area-needed
 unfolding refuse
 returns-2 c =
-    let s = c.before.before.before.before.before in
+    let s = c in
     let e = open_seven s.args.capacity s.args.book.now s.args.area.now (ranged c.before)
-    (subst (λ n. length s.args.area.now < n) (needed c.before) c.if2.true) in
+    (subst (λ n. length s.args.area.now < n) (needed c.before) c.if-area-needed.true) in
     (sym (ap (λ o. o.refusal) e), sym (ap (λ o. o.area) e))
 
-slice-aggregate-decode : tie.Need-slice-aggregate-decode
+slice-aggregate-decode : tie.Need-slice_bounds-decode-end
 slice-aggregate-decode c = search rules
 
-decode-requires : tie.Need-decode-requires
+decode-requires : tie.Need-decode-decoded-requires
 decode-requires c κs = search rules
 
-returns-3 : tie.Need-returns-3
+returns-3 : tie.Need-returns-then-refusal-ne0
 unfolding refuse
 returns-3 c =
-    let long = c.before.before.before.before in
-    let s = long.before.before.before.before.before in
-    let refusal = c.before.before.decode.ensures.0 in
-    let e = open_refused s.args.capacity s.args.book.now s.args.area.now (ranged long.before) (roomy long)
-    (λ z. c.if3.true (refusal ∙ z)) in
+    let long = c in
+    let s = long in
+    let refusal = c.decode-decoded.ensures.0 in
+    let e = open_refused s.args.capacity s.args.book.now s.args.area.now (ranged long.before.before.before.before.before) (roomy long.before.before.before.before)
+    (λ z. c.if-refusal-ne0.true (refusal ∙ z)) in
     (refusal ∙ sym (ap (λ o. o.refusal) e), sym (ap (λ o. o.area) e))
 
-slice-aggregate-opened : tie.Need-slice-aggregate-opened
+slice-aggregate-opened : tie.Need-slice_bounds-opened-end
 slice-aggregate-opened c = search rules
 
 opened-requires : tie.Need-opened-requires
 opened-requires c κs =
-    let long = c.before.before.before.before.before.before in
-    (search rules, needed long.before, long.if2.false, search rules)
+    let long = c in
+    (search rules, needed long.before.before.before.before.before.before.before, long.if-area-needed.false, search rules)
 
-same_length : tie.Need-same-length
+same_length : tie.Need-shape_of-area
 same_length c = search rules
 
-returns-4 : tie.Need-returns-4
+returns-4 : tie.Need-returns
 unfolding accept
 returns-4 c =
-    let opened = c.before.before in
-    let accepted = opened.before.before.before in
-    let read = accepted.before.before.decode in
-    let long = accepted.before.before.before.before in
-    let s = long.before.before.before.before.before in
-    let e = open_accepted s.args.capacity s.args.book.now s.args.area.now (ranged long.before) (roomy long)
-    (sym read.ensures.0 ∙ accepted.if3.false) in
+    let opened = c in
+    let accepted = opened in
+    let read = accepted.decode-decoded in
+    let long = accepted in
+    let s = long in
+    let e = open_accepted s.args.capacity s.args.book.now s.args.area.now (ranged long.before.before.before.before.before.before.before.before.before.before) (roomy long.before.before.before.before.before.before.before.before.before)
+    (sym read.ensures.0 ∙ accepted.if-refusal-ne0.false) in
     let book = decoded_book (parse_book office s.args.book.now) in
     let counted : read.result.terms ≡ length book = read.ensures.1.0 in
-    let rowed : read.new.1.1.0 ≡ book_rows (term_words * office.max_terms) book = read.ensures.1.1 accepted.if3.false in
+    let rowed : read.new.rows ≡ book_rows (term_words * office.max_terms) book = read.ensures.1.1 accepted.if-refusal-ne0.false in
     let words = ap₂ (λ terms rows. over (concat_map (to_bytes word_size) (opened_words office s.args.capacity terms rows)) s.args.area.now)
     counted rowed in
     (sym (ap (λ o. o.refusal) e), opened.opened.ensures ∙ words ∙ sym (ap (λ o. o.area) e))

@@ -5,12 +5,12 @@ use Rattle.office.proofs.read.read.Tie as tie
 
 returns : tie.Need-returns
 returns c =
-    let t = c.before.before.before.before.before.before.before.before.before.before.before.before.before.before.sound in (
+    let t = c.sound in (
       t.ensures.0,
       λ h. record {
-        bindings = t.new.1.1.1.0;
-        list = t.new.1.1.1.1.0;
-        roots = t.new.1.1.1.1.1.0;
+        bindings = t.new.bindings;
+        list = t.new.list;
+        roots = t.new.roots;
         read = t.ensures.1 h;
       },
     )

@@ -18,46 +18,46 @@ use Rattle.office.proofs.reports.report.Statement.{statement}
 use Rattle.office.proofs.reports.report.Tie as tie
 
 -- past the test the area is sound, and its parts are loaded
-is-sound : (e : tie.Else1) → sound office e.before.before.before.before.before.before.before.before.before.before.before.before.args.area.now ≡ true
-is-sound e = sym e.before.before.before.before.before.read.ensures.0 ∙ not-false _ e.if1.false
+is-sound : (e : tie.Else-not-read) → sound office e.args.area.now ≡ true
+is-sound e = sym e.read.ensures.0 ∙ not-false _ e.if-not-read.false-raw
 
-is_held : (e : tie.Else1) → let r = e.before.before.before.before.before.read.new in Viewed e.before.before.before.before.before.before.before.before.before.before.before.before.args.area.now r.1.0 r.1.1.0 r.1.1.1.0 r.1.1.1.1.0
-is_held e = e.before.before.before.before.before.read.ensures.1 (not-false _ e.if1.false)
+is_held : (e : tie.Else-not-read) → let r = e.read.new in Viewed e.args.area.now r.rows r.names r.lines r.entries
+is_held e = e.read.ensures.1 (not-false _ e.if-not-read.false-raw)
 
-returns : tie.Need-returns
-returns c = report_seven _ _ (sym c.before.before.before.before.before.read.ensures.0 ∙ not-true _ c.if1.true)
+returns : tie.Need-returns-then-not-read
+returns c = report_seven _ _ (sym c.read.ensures.0 ∙ not-true _ c.if-not-read.true-raw)
 
-load-header-requires : tie.Need-load-header-requires
+load-header-requires : tie.Need-load_header-h-requires
 load-header-requires c κs = sound_header office _ (true_T _ (is-sound c))
 
 -- its rows and its lines lie in their slices
-table-within : (h : tie.After-load-header) → entry_row_words * h.load-header.result.capacity ≤ length h.before.before.before.before.before.before.read.new.1.1.1.1.0
-table-within h = cut_fits (is_held h.before) _ h.load-header.ensures.0
+table-within : (h : tie.After-load_header-h) → entry_row_words * h.load_header-h.result.capacity ≤ length h.read.new.entries
+table-within h = cut_fits (is_held h.before) _ h.load_header-h.ensures.0
 
-lines-within : (h : tie.After-load-header) → h.load-header.result.lines ≤ length h.before.before.before.before.before.before.read.new.1.1.1.0
-lines-within h = lines_fit (is_held h.before) _ h.load-header.ensures.3
+lines-within : (h : tie.After-load_header-h) → h.load_header-h.result.lines ≤ length h.read.new.lines
+lines-within h = lines_fit (is_held h.before) _ h.load_header-h.ensures.3
 
 report-requires : tie.Need-report-requires
 report-requires c κs =
-    let h = c.before.before.before.before.before.before.before.before.before.before.before in
-    let e = h.before in
-    let n = h.load-header.ensures in
-    let few = few-entries (is_held e) in (
-      record { state = state_of _ office; holds = (read_told (is_held e) _ _ n.0 n.3, n.2 ∙ sym (read-entries (is_held e).read)) },
-      (record { met_fit = omega (arith, few, n.2); numbers_fit = omega (arith, few, n.2); words = omega (arith, few, n.2) }, omega (arith, few-lines (is_held e) h.load-header.result.lines)),
+    let h = c in
+    let e = h in
+    let n = h.load_header-h.ensures in
+    let few = few-entries (is_held e.before.before.before.before.before.before.before.before.before.before.before.before) in (
+      record { state = state_of _ office; holds = (read_told (is_held e.before.before.before.before.before.before.before.before.before.before.before.before) _ _ n.0 n.3, n.2 ∙ sym (read-entries (is_held e.before.before.before.before.before.before.before.before.before.before.before.before).read)) },
+      (record { met_fit = omega (arith, few, n.2); numbers_fit = omega (arith, few, n.2); words = omega (arith, few, n.2) }, omega (arith, few-lines (is_held e.before.before.before.before.before.before.before.before.before.before.before.before) h.load_header-h.result.lines)),
     )
 
-returns-2 : tie.Need-returns-2
+returns-2 : tie.Need-returns
 returns-2 c =
-    let r = c.before.before.before.before.before in
-    let h = r.before.before.before.before.before.before.before.before.before.before.before.before in
-    let e = h.before in
-    let n = h.load-header.ensures in
-    written-report (is_held e) (is-sound e) _
-    (r.report.ensures _ (read_told (is_held e) _ _ n.0 n.3) (n.2 ∙ sym (read-entries (is_held e).read)))
+    let r = c in
+    let h = r in
+    let e = h in
+    let n = h.load_header-h.ensures in
+    written-report (is_held e.before.before.before.before.before.before.before.before.before.before.before.before.before.before.before.before.before.before) (is-sound e.before.before.before.before.before.before.before.before.before.before.before.before.before.before.before.before.before.before) _
+    (r.report.ensures _ (read_told (is_held e.before.before.before.before.before.before.before.before.before.before.before.before.before.before.before.before.before.before) _ _ n.0 n.3) (n.2 ∙ sym (read-entries (is_held e.before.before.before.before.before.before.before.before.before.before.before.before.before.before.before.before.before.before).read)))
 
-pub report-spec : {M : Type 1} → statement M
-report-spec =
+pub report_spec : {M : Type 1} → statement M
+report_spec =
     tie.close
     (tie.spec
     (λ c. search rules)

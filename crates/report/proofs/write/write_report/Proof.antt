@@ -59,7 +59,7 @@ add_at c =
     let turn = c in
     let start = turn in
     let written = c.write_entry-at.ensures start.requires.state start.requires.holds.0 in
-    omega (arith, turn.loop-n.invariant, turn.put_run-at.auto.out, start.type_inv, room turn.before.before.before.before, written.0, tail_length turn.loop-n.out turn.loop-n.at)
+    omega (arith, turn.loop-n.invariant, turn.put_run-at.auto.out, start.well_formed, room turn.before.before.before.before, written.0, tail_length turn.loop-n.out turn.loop-n.at)
 
 add-n : tie.Need-overflow_add-n invariant-loop decreases-loop
 add-n c = omega arith

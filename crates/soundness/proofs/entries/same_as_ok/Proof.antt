@@ -133,8 +133,8 @@ loop-again c =
       filling_more _ _ (rw length-table_of l) h.0 p.push-place.ensures p.push-place.auto.cells
           (ap f (sym (entry-left _ _ _ l))) (ap f (sym (entry-right _ _ _ l))),
       λ b β k. below_more _ _ (h.1 b β k) (same_as_place k l ∙ eq-eqb _ _ (sym c.if-place-entries.false ∙ place p.before.before.before.before.before.before.before.before.before)),
-      λ e. ⊎_elim (λ u. absurd (false≢true (sym u.1 ∙ e)))
-          (λ u. below_more _ _ (h.2 (sym u.1 ∙ e)) (eq-eqb _ _ (sym (place p.before.before.before.before.before.before.before.before.before) ∙ u.0.left))) c.if-place-i.branch,
+      λ e. ⊎_elim (λ u. absurd (false≢true (sym u.apart-is ∙ e)))
+          (λ u. below_more _ _ (h.2 (sym u.apart-is ∙ e)) (eq-eqb _ _ (sym (place p.before.before.before.before.before.before.before.before.before) ∙ u.if-place-i.false))) c.if-place-i.branch-raw,
     )
 
 same-length-4 : tie.Need-shape_of-lefts invariant-loop decreases-loop

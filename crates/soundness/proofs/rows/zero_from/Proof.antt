@@ -26,8 +26,8 @@ loop-again c =
     let l = c in
     let words = l.args.words.now in
     let there = c.loop-k-test.true in
-    ⊎_elim (λ u. rw u.1 (one-is-not words _ l.loop-k.zero _ there (ne_eqb 0 _ (λ e. u.0.taken (sym e))) l.loop-k.invariant))
-    (λ u. rw u.1 (one-is words _ l.loop-k.zero _ there (eq-eqb 0 _ (sym u.0.left)) l.loop-k.invariant)) c.if-words-k-ne0.branch
+    ⊎_elim (λ u. rw u.zero-is (one-is-not words _ l.loop-k.zero _ there (ne_eqb 0 _ (λ e. u.if-words-k-ne0.true (sym e))) l.loop-k.invariant))
+    (λ u. rw u.zero-is (one-is words _ l.loop-k.zero _ there (eq-eqb 0 _ (sym u.if-words-k-ne0.false)) l.loop-k.invariant)) c.if-words-k-ne0.branch-raw
 
 returns : tie.Need-returns invariant-loop decreases-loop
 returns c = none_left c.args.words.now _ c.loop-k.zero _ c.loop-k-test.false c.loop-k.invariant

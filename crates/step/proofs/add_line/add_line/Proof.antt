@@ -6,35 +6,35 @@ use Rattle.step.proofs.add_line.Answers.{left-refused, right-refused, lines-refu
 use Rattle.step.proofs.add_line.add_line.Statement.{statement}
 use Rattle.step.proofs.add_line.add_line.Tie as tie
 
-returns : tie.Need-returns
-returns c = left-refused _ _ _ _ c.refused.ensures c.before.if1.true
+returns : tie.Need-returns-then-h-l
+returns c = left-refused _ _ _ _ c.refused.ensures c.if-h-l.true
 
-returns-2 : tie.Need-returns-2
-returns-2 c = right-refused _ _ _ _ c.refused2.ensures c.before.before.before.if1.false c.before.if2.true
+returns-2 : tie.Need-returns-then-h-r
+returns-2 c = right-refused _ _ _ _ c.refused-then-h-r.ensures c.if-h-l.false c.if-h-r.true
 
-returns-3 : tie.Need-returns-3
-returns-3 c = lines-refused _ _ _ _ c.refused3.ensures c.before.before.before.before.before.before.if1.false c.before.before.before.before.if2.false c.before.if3.true
+returns-3 : tie.Need-returns-then-lim-k
+returns-3 c = lines-refused _ _ _ _ c.refused-then-lim-k.ensures c.if-h-l.false c.if-h-r.false c.if-lim-k.true
 
-grow-requires : tie.Need-grow-requires
-grow-requires c κs = grow_given c.before.before.before.before.before.before.before.before.before.before.before.before.before.before.before.before.before.before.before.before.before.requires.1.1 c.before.before.before.before.before.before.before.before.before.before.before.if1.false c.before.before.before.before.before.before.before.before.before.if2.false c.before.before.before.before.before.before.before.before.before.before.before.before.before.before.before.before.before.before.before.before.before.requires.1.0
+grow-requires : tie.Need-grow-g-requires
+grow-requires c κs = grow_given c.requires.1.1 c.if-h-l.false c.if-h-r.false c.requires.1.0
 
-returns-4 : tie.Need-returns-4
-returns-4 c = full_refused c.before.before.before.before.before.before.before.before.before.before.before.before.before.before.before.before.before.before.before.before.before.before.before.before.before.before.before.before.before.before.before.before.requires.1.1 c.before.before.before.before.before.before.before.before.before.before.before.before.before.before.before.before.before.before.before.before.before.before.if1.false c.before.before.before.before.before.before.before.before.before.before.before.before.before.before.before.before.before.before.before.before.if2.false c.before.before.before.before.before.before.before.before.before.before.grow.ensures c.before.before.before.before.before.before.before.before.before.before.before.before.before.before.before.before.before.if3.false _ c.refused4.ensures c.before.if4.true
+returns-4 : tie.Need-returns-then-g
+returns-4 c = full_refused c.requires.1.1 c.if-h-l.false c.if-h-r.false c.grow-g.ensures c.if-lim-k.false _ c.refused-then-g.ensures c.if-g.true
 
-slice-write-lines : tie.Need-slice-write-lines
-slice-write-lines c = omega (arith, c.before.before.before.before.before.before.before.before.before.before.before.before.before.before.before.before.before.before.before.before.before.before.before.before.before.before.before.before.before.before.before.requires.1.0.ready.sizes.lines_size, c.before.before.before.before.before.before.before.before.before.before.before.before.before.before.before.before.if3.false)
+slice-write-lines : tie.Need-bounds-lines-k
+slice-write-lines c = omega (arith, c.requires.1.0.ready.sizes.lines_size, c.if-lim-k.false)
 
-cast-count : tie.Need-overflow-cast-t29
-cast-count c = omega (arith, count_fits c.before.before.before.before.before.before.before.before.before.before.before.before.before.before.before.before.before.before.before.before.before.before.before.before.before.before.before.before.before.before.before.before.requires.1.1 c.before.before.before.before.before.before.before.before.before.before.before.before.before.before.before.before.before.before.before.before.before.before.if1.false c.before.before.before.before.before.before.before.before.before.before.before.before.before.before.before.before.before.before.before.before.if2.false c.before.before.before.before.before.before.before.before.before.before.grow.ensures c.before.before.before.before.before.before.before.before.before.before.before.before.before.before.before.before.before.if3.false c.before.if4.false c.before.before.before.before.before.before.before.before.before.before.before.before.before.before.before.before.before.before.before.before.before.before.before.before.before.before.before.before.before.before.before.before.requires.1.0)
+cast-count : tie.Need-overflow_cast-result
+cast-count c = omega (arith, count_fits c.requires.1.1 c.if-h-l.false c.if-h-r.false c.grow-g.ensures c.if-lim-k.false c.if-g.false c.requires.1.0)
 
-add-lines : tie.Need-overflow-add-t30
-add-lines c = omega (arith, c.before.before.before.before.before.before.before.before.before.before.before.before.before.before.before.before.before.before.if3.false, c.before.before.before.before.before.before.before.before.before.before.before.before.before.before.before.before.before.before.before.before.before.before.before.before.before.before.before.before.before.before.before.before.before.requires.0.lines)
+add-lines : tie.Need-overflow_add-result
+add-lines c = omega (arith, c.if-lim-k.false, c.requires.0.lines)
 
-returns-5 : tie.Need-returns-5
-returns-5 c = line_added c.before.before.before.before.before.before.before.before.before.before.before.before.before.before.before.before.before.before.before.before.before.before.before.before.before.before.before.before.before.before.before.before.before.requires.1.1 c.before.before.before.before.before.before.before.before.before.before.before.before.before.before.before.before.before.before.before.before.before.before.before.if1.false c.before.before.before.before.before.before.before.before.before.before.before.before.before.before.before.before.before.before.before.before.before.if2.false c.before.before.before.before.before.before.before.before.before.before.before.grow.ensures c.before.before.before.before.before.before.before.before.before.before.before.before.before.before.before.before.before.before.if3.false c.before.before.if4.false
+returns-5 : tie.Need-returns
+returns-5 c = line_added c.requires.1.1 c.if-h-l.false c.if-h-r.false c.grow-g.ensures c.if-lim-k.false c.if-g.false
 
-pub add-line-spec : {M : Type 1} → statement M
-add-line-spec =
+pub add_line_spec : {M : Type 1} → statement M
+add_line_spec =
     tie.close
     (tie.spec
     (λ c κs. search rules)

@@ -5,14 +5,14 @@ use Rattle.step.proofs.bind.Tests.{not_a_variable, a_variable}
 use Rattle.step.proofs.bind.is_free.Statement.{statement}
 use Rattle.step.proofs.bind.is_free.Tie as tie
 
-returns : tie.Need-returns
-returns c = not_a_variable _ _ _ c.if1.true
+returns : tie.Need-returns-then-rows-i-ne0
+returns c = not_a_variable _ _ _ c.if-rows-i-ne0.true
 
-returns-2 : tie.Need-returns-2
-returns-2 c = a_variable _ _ _ c.before.if1.false
+returns-2 : tie.Need-returns
+returns-2 c = a_variable _ _ _ c.if-rows-i-ne0.false
 
-pub is-free-spec : {M : Type 1} → statement M
-is-free-spec =
+pub is_free_spec : {M : Type 1} → statement M
+is_free_spec =
     tie.close
     (tie.spec
     (λ c. search rules)

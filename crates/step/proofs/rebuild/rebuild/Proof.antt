@@ -11,73 +11,71 @@ use Rattle.step.proofs.rebuild.rebuild.Statement.{statement}
 use Rattle.step.proofs.rebuild.rebuild.Tie as tie
 
 -- no value contains itself
-returns : tie.Need-returns
+returns : tie.Need-returns-then-not-name_terms
 returns c =
-    let n = c.before.before.before.before.before.before.before.before.before.before.before.before.before.before in
-    absurd (never_refused n.before.before.before.before.before.before.before.before.before.before.before.before.before.before.before.before.requires n.name-terms.ensures.0 c.before.if1.true)
+    let n = c in
+    absurd (never_refused n.requires n.name_terms.ensures.0 c.if-not-name_terms.true-raw)
 
 index-requires : tie.Need-index-requires
 index-requires c κs =
-    let n = c.before.before.before.before.before.before.before.before.before.before.before.before.before.before.before.before.before.before.before in
-    let k = n.name-terms.auto.1.1.1.1.1.1 in
+    let n = c in
     record {
       book = _;
       bound = _;
       table = _;
-      known = to_index n.before.before.before.before.before.before.before.before.before.before.before.before.before.before.before.before.requires (n.name-terms.ensures.1 (not-false _ c.before.before.before.before.before.before.if1.false)) k.0 k.1.0 k.1.1.0;
+      known = to_index n.requires (n.name_terms.ensures.1 (not-false _ c.if-not-name_terms.false-raw)) c.name_terms.auto.lefts c.name_terms.auto.rights c.name_terms.auto.cells;
     }
 
 -- past the index the table can be walked through
 walk_at : (i : tie.After-index) →
-    let n = i.before.before.before.before.before.before.before.before.before.before.before.before.before.before.before.before.before.before.before.before in
-    let a = n.before.before.before.before.before.before.before.before.before.before.before.before.before.before.before.before.args in
+    let n = i in
+    let a = n.args in
     let h = a.h in
-    ToWalk a.rows.now n.name-terms.new.1.1.1.1.0 n.name-terms.new.1.1.1.1.1.0 a.entries.now i.index.new.1.1.1.0 i.index.new.1.1.1.1.0
-    i.index.new.1.1.1.1.1.0 h.capacity h.entries (book_of a.rows.now h.terms)
+    ToWalk a.rows.now n.name_terms.new.roots n.name_terms.new.names a.entries.now i.index.new.lefts i.index.new.rights
+    i.index.new.cells h.capacity h.entries (book_of a.rows.now h.terms)
     (bound_of a.bindings.now h.terms) (table_of a.entries.now h.entries)
 walk_at i =
-    let n = i.before.before.before.before.before.before.before.before.before.before.before.before.before.before.before.before.before.before.before.before in
-    let k = n.name-terms.auto.1.1.1.1.1.1 in
-    to_walk n.before.before.before.before.before.before.before.before.before.before.before.before.before.before.before.before.requires (n.name-terms.ensures.1 (not-false _ i.before.before.before.before.before.before.before.if1.false)) k.0 k.1.0 k.1.1.0
-    (index_sizes i.index.auto.1.1.1)
+    let n = i in
+    to_walk n.requires (n.name_terms.ensures.1 (not-false _ i.if-not-name_terms.false-raw)) i.name_terms.auto.lefts i.name_terms.auto.rights i.name_terms.auto.cells
+    (index_sizes i.index.auto.lefts i.index.auto.rights i.index.auto.cells)
     i.index.ensures
 
-walk-and-settle-requires : tie.Need-walk-and-settle-requires
-walk-and-settle-requires c κs = record { book = _; bound = _; table = _; known = walk_at c.before.before.before.before.before.before.before.before.before.before.before.before }
+walk-and-settle-requires : tie.Need-walk_and_settle-requires
+walk-and-settle-requires c κs = record { book = _; bound = _; table = _; known = walk_at c.before.before.before.before.before.before.before.before.before.before }
 
-same-length-7 : tie.Need-same-length-7
-same-length-7 c = c.before.before.before.before.before.before.before.before.before.before.before.before.before.before.before.before.before.before.before.before.before.before.before.before.before.before.before.before.before.before.before.before.before.before.before.before.before.before.before.before.before.name-terms.auto.1.1.1.0
+same-length-7 : tie.Need-shape_of-list
+same-length-7 c = c.name_terms.auto.list
 
-same-length-8 : tie.Need-same-length-8
-same-length-8 c = c.before.before.before.before.before.before.before.before.before.before.before.before.before.before.before.before.before.before.before.before.before.before.before.before.before.before.before.before.before.before.before.before.before.before.before.before.before.before.before.before.before.name-terms.auto.1.1.1.1.0
+same-length-8 : tie.Need-shape_of-roots
+same-length-8 c = c.name_terms.auto.roots
 
-same-length-9 : tie.Need-same-length-9
-same-length-9 c = c.before.before.before.before.before.before.before.before.before.before.before.before.before.before.before.before.before.before.before.before.before.before.before.before.before.before.before.before.before.before.before.before.before.before.before.before.before.before.before.before.before.name-terms.auto.1.1.1.1.1.0
+same-length-9 : tie.Need-shape_of-names
+same-length-9 c = c.name_terms.auto.names
 
-same-length-11 : tie.Need-same-length-11
-same-length-11 c = c.before.before.before.before.before.before.before.before.walk-and-settle.auto.1.1.1.1.1.0 ∙ c.before.before.before.before.before.before.before.before.before.before.before.before.before.before.before.before.before.before.before.before.before.index.auto.1.1.1.0 ∙ c.before.before.before.before.before.before.before.before.before.before.before.before.before.before.before.before.before.before.before.before.before.before.before.before.before.before.before.before.before.before.before.before.before.before.before.before.before.before.before.before.before.name-terms.auto.1.1.1.1.1.1.0
+same-length-11 : tie.Need-shape_of-lefts
+same-length-11 c = c.walk_and_settle.auto.lefts ∙ c.index.auto.lefts ∙ c.name_terms.auto.lefts
 
-same-length-12 : tie.Need-same-length-12
-same-length-12 c = c.before.before.before.before.before.before.before.before.walk-and-settle.auto.1.1.1.1.1.1.0 ∙ c.before.before.before.before.before.before.before.before.before.before.before.before.before.before.before.before.before.before.before.before.before.index.auto.1.1.1.1.0 ∙ c.before.before.before.before.before.before.before.before.before.before.before.before.before.before.before.before.before.before.before.before.before.before.before.before.before.before.before.before.before.before.before.before.before.before.before.before.before.before.before.before.before.name-terms.auto.1.1.1.1.1.1.1.0
+same-length-12 : tie.Need-shape_of-rights
+same-length-12 c = c.walk_and_settle.auto.rights ∙ c.index.auto.rights ∙ c.name_terms.auto.rights
 
-same-length-13 : tie.Need-same-length-13
-same-length-13 c = c.before.before.before.before.before.before.before.before.walk-and-settle.auto.1.1.1.1.1.1.1.0 ∙ c.before.before.before.before.before.before.before.before.before.before.before.before.before.before.before.before.before.before.before.before.before.index.auto.1.1.1.1.1.0 ∙ c.before.before.before.before.before.before.before.before.before.before.before.before.before.before.before.before.before.before.before.before.before.before.before.before.before.before.before.before.before.before.before.before.before.before.before.before.before.before.before.before.before.name-terms.auto.1.1.1.1.1.1.1.1.0
+same-length-13 : tie.Need-shape_of-cells
+same-length-13 c = c.walk_and_settle.auto.cells ∙ c.index.auto.cells ∙ c.name_terms.auto.cells
 
-returns-2 : tie.Need-returns-2
-returns-2 c = c.before.before.before.before.before.before.before.before.walk-and-settle.ensures _ _ _ (walk_at c.before.before.before.before.before.before.before.before.before.before.before.before.before.before.before.before.before.before.before.before.before)
+returns-2 : tie.Need-returns
+returns-2 c = c.walk_and_settle.ensures _ _ _ (walk_at c.before.before.before.before.before.before.before.before.before.before.before.before.before.before.before.before.before.before.before)
 
-pub rebuild-spec : {M : Type 1} → statement M
-rebuild-spec =
+pub rebuild_spec : {M : Type 1} → statement M
+rebuild_spec =
     tie.close
     (tie.spec
-    (λ c κs. (c.before.before.before.before.before.before.before.before.before.before.before.before.before.before.before.requires.good, c.before.before.before.before.before.before.before.before.before.before.before.before.before.before.before.requires.for_terms))
+    (λ c κs. (c.requires.good, c.requires.for_terms))
     (λ c κs. tt)
-    (λ c. c.before.before.before.before.before.before.before.before.before.before.before.before.before.before.name-terms.auto.1.1.1.0)
-    (λ c. c.before.before.before.before.before.before.before.before.before.before.before.before.before.before.name-terms.auto.1.1.1.1.0)
-    (λ c. c.before.before.before.before.before.before.before.before.before.before.before.before.before.before.name-terms.auto.1.1.1.1.1.0)
-    (λ c. c.before.before.before.before.before.before.before.before.before.before.before.before.before.before.name-terms.auto.1.1.1.1.1.1.0)
-    (λ c. c.before.before.before.before.before.before.before.before.before.before.before.before.before.before.name-terms.auto.1.1.1.1.1.1.1.0)
-    (λ c. c.before.before.before.before.before.before.before.before.before.before.before.before.before.before.name-terms.auto.1.1.1.1.1.1.1.1.0)
+    (λ c. c.name_terms.auto.list)
+    (λ c. c.name_terms.auto.roots)
+    (λ c. c.name_terms.auto.names)
+    (λ c. c.name_terms.auto.lefts)
+    (λ c. c.name_terms.auto.rights)
+    (λ c. c.name_terms.auto.cells)
     returns
     (λ c. search rules)
     index-requires
@@ -85,7 +83,7 @@ rebuild-spec =
     same-length-7
     same-length-8
     same-length-9
-    (λ c. c.before.before.before.before.before.before.before.before.walk-and-settle.auto.1.1.1.1.0)
+    (λ c. c.walk_and_settle.auto.entries)
     same-length-11
     same-length-12
     same-length-13

@@ -7,16 +7,16 @@ use Rattle.step.proofs.take.keep.Tie as tie
 
 store-requires : tie.Need-store-requires
 store-requires c κs =
-    let s = c.before.before.before.before.before.before.before.before in
-    (s.requires.0, s.requires.2 (sym c.before.before.refusal-number.ensures ∙ c.before.if1.true), s.requires.1)
+    let s = c in
+    (s.requires.0, s.requires.2 (sym c.refusal_number-refusal.ensures ∙ c.if-refusal-eq0.true), s.requires.1)
 
-returns : tie.Need-returns
+returns : tie.Need-returns-then-refusal-eq0
 returns c =
-    let test = c.before.before.before.before in
-    c.before.before.store.ensures ∙ sym (stored _ _ _ (sym test.before.refusal-number.ensures ∙ test.if1.true))
+    let test = c in
+    c.store.ensures ∙ sym (stored _ _ _ (sym test.refusal_number-refusal.ensures ∙ test.if-refusal-eq0.true))
 
-returns-2 : tie.Need-returns-2
-returns-2 c = sym (not_stored_lem _ _ _ (λ e. c.if1.false (c.before.refusal-number.ensures ∙ e)))
+returns-2 : tie.Need-returns-else-refusal-eq0
+returns-2 c = sym (not_stored_lem _ _ _ (λ e. c.if-refusal-eq0.false (c.refusal_number-refusal.ensures ∙ e)))
 
 pub keep_spec : {M : Type 1} → statement M
-keep_spec = tie.close (tie.spec (λ c κs. search rules) store-requires (λ c. c.before.before.store.auto.1.0) returns returns-2)
+keep_spec = tie.close (tie.spec (λ c κs. search rules) store-requires (λ c. c.store.auto.area) returns returns-2)

@@ -6,26 +6,26 @@ use Rattle.table.proofs.place.place.Statement.{statement}
 use Rattle.table.proofs.place.place.Tie as tie
 
 -- the pair has an entry
-returns : tie.Need-returns
-returns c b β es q = place-there q c.before.find.ensures c.if1.true
+returns : tie.Need-returns-then-found-m
+returns c b β es q = place-there q c.find-found.ensures c.if-found-m.true
 
 -- it would need one beyond the capacity
-returns-2 : tie.Need-returns-2
-returns-2 c b β es q = place_full q c.before.before.find.ensures c.before.if1.false c.if2.true
+returns-2 : tie.Need-returns-then-capacity-m
+returns-2 c b β es q = place_full q c.find-found.ensures c.if-found-m.false c.if-capacity-m.true
 
 -- it is appended
 push-requires : tie.Need-push-requires
 push-requires c κs =
-    let s = c.before.before.before.before.before.before.before.before.before.before.before.before.before.before.before.before.before.before.before.before.requires.known.stands in
-    (s.indexed, room_fewer c.before.before.before.before.before.before.before.if2.false s.room)
+    let s = c.requires.known.stands in
+    (s.indexed, room_fewer c.if-capacity-m.false s.room)
 
-returns-3 : tie.Need-returns-3
+returns-3 : tie.Need-returns
 returns-3 c b β es q =
-    place-hole q c.before.before.before.before.before.before.before.before.before.before.before.before.before.before.before.before.find.ensures c.before.before.before.before.before.before.before.before.before.before.before.before.before.before.before.if1.false c.before.before.before.before.before.before.before.before.before.before.before.before.before.before.if2.false c.before.before.before.before.before.before.before.before.before.before.before.before.put-entry.ensures c.before.before.before.before.before.before.push.ensures
-    c.before.before.before.before.before.before.before.before.before.before.before.before.put-entry.auto.0 c.before.before.before.before.before.before.push.auto.1.1.0
+    place-hole q c.find-found.ensures c.if-found-m.false c.if-capacity-m.false c.put_entry.ensures c.push.ensures
+    c.put_entry.auto.entries c.push.auto.cells
 
-pub place-spec : {M : Type 1} → statement M
-place-spec =
+pub place_spec : {M : Type 1} → statement M
+place_spec =
     tie.close
     (tie.spec
     (λ c. search rules)

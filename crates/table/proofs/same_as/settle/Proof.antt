@@ -7,33 +7,33 @@ use Rattle.table.proofs.same_as.Settling.{Settling, settling_none, same_as_word,
 use Rattle.table.proofs.same_as.settle.Statement.{statement}
 use Rattle.table.proofs.same_as.settle.Tie as tie
 
-abbrev invariant-loop : tie.invariant-loop
+abbrev invariant-loop : tie.invariant-loop-i
 invariant-loop entries₀ m lefts rights cells i₀ entries i = Settling entries₀ lefts rights cells m entries i
 
-abbrev decreases-loop : tie.decreases-loop
+abbrev decreases-loop : tie.decreases-loop-i
 decreases-loop entries₀ m lefts rights cells i₀ entries i = m - i
 
-loop-holds : tie.Need-loop-init invariant-loop decreases-loop
+loop-holds : tie.Need-loop-i-init invariant-loop decreases-loop
 loop-holds c = settling_none _ _ _ _ _
 
-cast-e : tie.Need-overflow-cast-e invariant-loop decreases-loop
-cast-e c = omega (arith, same_as_word c.before.before.before.before.before.before.before.before.before.before.before.requires.known c.before.before.before.before.before.loop-test.true c.before.before.find.ensures)
+cast-e : tie.Need-overflow_cast-e invariant-loop decreases-loop
+cast-e c = omega (arith, same_as_word c.requires.known c.loop-i-test.true c.find-found.ensures)
 
-put-entry-requires : tie.Need-put-entry-requires invariant-loop decreases-loop
+put-entry-requires : tie.Need-put_entry-requires invariant-loop decreases-loop
 put-entry-requires c κs =
-    let q = c.before.before.before.before.before.before.before.before.before.before.before.before.requires.known in
-    omega (arith, c.before.before.before.before.before.before.loop-test.true, q.count, q.held.fits, c.before.before.before.before.before.before.before.loop.invariant.size)
+    let q = c.requires.known in
+    omega (arith, c.loop-i-test.true, q.count, q.held.fits, c.loop-i.invariant.size)
 
-loop-again : tie.Need-loop-preserved invariant-loop decreases-loop
+loop-again : tie.Need-loop-i-preserved invariant-loop decreases-loop
 loop-again c =
-    settling_more c.before.before.before.before.before.before.before.before.before.before.loop.invariant c.before.before.before.before.before.before.before.before.before.loop-test.true c.before.before.before.before.before.before.find.ensures _ c.before.before.before.before.entry_at.ensures c.before.before.put-entry.ensures
-    c.before.before.put-entry.auto.0
+    settling_more c.loop-i.invariant c.loop-i-test.true c.find-found.ensures _ c.entry_at-e.ensures c.put_entry.ensures
+    c.put_entry.auto.entries
 
 returns : tie.Need-returns invariant-loop decreases-loop
-returns c = settling_all c.before.loop.invariant c.loop-test.false
+returns c = settling_all c.loop-i.invariant c.loop-i-test.false
 
-pub settle-spec : {M : Type 1} → statement M
-settle-spec =
+pub settle_spec : {M : Type 1} → statement M
+settle_spec =
     tie.close
     (tie.spec
     invariant-loop

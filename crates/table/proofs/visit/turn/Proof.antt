@@ -4,11 +4,11 @@ use Rattle.table.proofs.visit.Turning.{turned_none, turned-put}
 use Rattle.table.proofs.visit.turn.Statement.{statement}
 use Rattle.table.proofs.visit.turn.Tie as tie
 
-returns : tie.Need-returns
-returns c = turned_none _ _ _ _ _ _ c.if1.true
+returns : tie.Need-returns-then-args
+returns c = turned_none _ _ _ _ _ _ c.if-args.true
 
-returns-2 : tie.Need-returns-2
-returns-2 c = turned-put _ _ _ _ _ _ c.before.before.before.before.before.before.before.if1.false c.before.before.put-entry.ensures
+returns-2 : tie.Need-returns
+returns-2 c = turned-put _ _ _ _ _ _ c.if-args.false c.put_entry.ensures
 
 pub turn_spec : {M : Type 1} → statement M
 turn_spec =

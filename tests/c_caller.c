@@ -759,17 +759,17 @@ static void test_archive(void)
 /* The same numbers, and those that no call shows, are the definitions'. */
 static void test_definitions(void)
 {
-    test("FIT_MAX_TERMS", 1, FIT_MAX_TERMS == DEFINED_maxTerms);
-    test("FIT_MAX_CAPACITY", 1, FIT_MAX_CAPACITY == DEFINED_maxCapacity);
-    test("FIT_MAX_LINES", 1, FIT_MAX_LINES == DEFINED_maxLines);
-    test("FIT_MAX_ARGUMENTS", 1, FIT_MAX_ARGUMENTS == DEFINED_maxArity);
-    test("FIT_MAX_SYMBOL", 1, FIT_MAX_SYMBOL == DEFINED_maxSymbol);
-    test("FIT_BOOK_BYTES", 0, FIT_BOOK_BYTES == DEFINED_longestBook);
-    test("FIT_LIST_BYTES", 0, FIT_LIST_BYTES == DEFINED_longestList);
-    test("FIT_REPORT_BYTES", 0, FIT_REPORT_BYTES == DEFINED_longestReport);
+    test("FIT_MAX_TERMS", 1, FIT_MAX_TERMS == DEFINED_max_terms);
+    test("FIT_MAX_CAPACITY", 1, FIT_MAX_CAPACITY == DEFINED_max_capacity);
+    test("FIT_MAX_LINES", 1, FIT_MAX_LINES == DEFINED_max_lines);
+    test("FIT_MAX_ARGUMENTS", 1, FIT_MAX_ARGUMENTS == DEFINED_max_arity);
+    test("FIT_MAX_SYMBOL", 1, FIT_MAX_SYMBOL == DEFINED_max_symbol);
+    test("FIT_BOOK_BYTES", 0, FIT_BOOK_BYTES == DEFINED_longest_book);
+    test("FIT_LIST_BYTES", 0, FIT_LIST_BYTES == DEFINED_longest_list);
+    test("FIT_REPORT_BYTES", 0, FIT_REPORT_BYTES == DEFINED_longest_report);
     /* by a term for each entry and one for all else, so two places tell all */
-    test("FIT_REPORT_BYTES_AT", 0, FIT_REPORT_BYTES_AT(FIT_MAX_CAPACITY) == DEFINED_longestReport
-        && FIT_REPORT_BYTES_AT(DEFINED_sessionCapacity) == DEFINED_longestSessionReport);
+    test("FIT_REPORT_BYTES_AT", 0, FIT_REPORT_BYTES_AT(FIT_MAX_CAPACITY) == DEFINED_longest_report
+        && FIT_REPORT_BYTES_AT(DEFINED_session_capacity) == DEFINED_longest_session_report);
 }
 
 /* The fields of an entry by their names: entry 5, in which all numbers but 0 differ. */

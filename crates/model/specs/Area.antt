@@ -4,7 +4,7 @@ use Rattle.std.specs.Prelude.{List, [], ◌∷◌, ◌++◌, map, Bool, true, fa
 use Rattle.std.proofs.Math.Option.{Option, none, some}
 use Rattle.model.specs.Limits.{Limits, office, longest_area, max_arity, max_symbol}
 use Rattle.model.specs.Lists.{all, from, concat_map, is_empty, eq_numbers, padded}
-use Rattle.model.specs.Term.{Node, var, app, symbol, arguments, alike, Book, Bindings, eq_tree, val, root, acyclic}
+use Rattle.model.specs.Term.{Node, var, app, symbol, arguments, alike, Book, Bindings, root, acyclic}
 use Rattle.model.specs.Table.{Kind, hole, common, Entry, Table, entry, holds, entry_of}
 use Rattle.model.specs.Step.{State}
 

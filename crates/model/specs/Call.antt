@@ -1,5 +1,5 @@
 -- The calls on bytes: what every contract cites (document 01, "Turned down"). Assumes nothing: these are definitions.
-use Rattle.std.specs.Prelude.{List, [], ◌∷◌, ◌++◌, Bool, true, false, ◌&&◌, ℕ, suc, length, drop, replicate, ltb, leb}
+use Rattle.std.specs.Prelude.{List, [], ◌∷◌, ◌++◌, Bool, true, false, ◌&&◌, ℕ, length, drop, replicate, ltb, leb}
 use Rattle.model.specs.Limits.{Limits}
 use Rattle.model.specs.Term.{Book}
 use Rattle.model.specs.Table.{entry}

@@ -1,5 +1,5 @@
 -- The report as numbers and as bytes (document 01, "Bytes"). Assumes nothing: these are definitions.
-use Rattle.std.specs.Prelude.{List, [], ◌∷◌, ◌++◌, map, true, false, cond, ℕ, zero, suc, length, get_or, eqb, ltb}
+use Rattle.std.specs.Prelude.{List, [], ◌∷◌, ◌++◌, map, cond, ℕ, zero, suc, length, get_or, eqb, ltb}
 use Rattle.leb128.specs.Number.{max_groups, write}
 use Rattle.model.specs.Lists.{first, concat_map}
 use Rattle.model.specs.Term.{Book, Bindings, name}

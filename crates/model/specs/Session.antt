@@ -1,6 +1,6 @@
 -- The session program: what it prints for what it reads (document 01, "Sessions"). Its steps go on states; the calls on bytes
 -- do the same steps on an area of `session_capacity`. Assumes nothing: these are definitions.
-use Rattle.std.specs.Prelude.{List, [], ◌∷◌, true, false, cond, ℕ, zero, suc, length, take, drop, leb}
+use Rattle.std.specs.Prelude.{List, [], ◌∷◌, cond, ℕ, zero, suc, length, take, drop, leb}
 use Rattle.model.specs.Limits.{office, max_session, session_capacity}
 use Rattle.model.specs.Term.{Book}
 use Rattle.model.specs.Step.{State, Answer, refused, accepted, add_line, bind, opened}

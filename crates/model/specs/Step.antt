@@ -4,7 +4,7 @@ use Rattle.std.specs.Prelude.{List, [], ◌∷◌, ◌++◌, map, Bool, true, fa
 use Rattle.std.proofs.Math.Option.{Option, none, some}
 use Rattle.model.specs.Limits.{Limits}
 use Rattle.model.specs.Term.{Node, var, app, Book, Bindings, val, occurs}
-use Rattle.model.specs.Table.{is_hole, Entry, Table, entry_of, place, walk, settle}
+use Rattle.model.specs.Table.{is_hole, Table, entry_of, place, walk, settle}
 
 pub record State : Type 0 where
   pub book : Book

@@ -1,5 +1,5 @@
 -- The pair table and its walk (document 01, "The pair table"). Assumes nothing: these are definitions.
-use Rattle.std.specs.Prelude.{List, [], ◌∷◌, ◌++◌, map, Bool, true, false, cond, ◌&&◌, ℕ, zero, suc, length, get_or, set, eqb, ltb}
+use Rattle.std.specs.Prelude.{List, [], ◌∷◌, ◌++◌, map, Bool, true, false, cond, ◌&&◌, ℕ, zero, suc, length, get_or, set, ltb}
 use Rattle.model.specs.Lists.{first, pairwise}
 use Rattle.model.specs.Term.{Node, symbol, arguments, alike, Book, Bindings, eq_tree, val, root}
 

@@ -1,5 +1,5 @@
 -- Limits up to the office's. Assumes nothing: these are definitions.
-use Rattle.std.specs.Prelude.{ℕ, ◌≤◌}
+use Rattle.std.specs.Prelude.{◌≤◌}
 use Rattle.model.specs.Limits.{Limits, office}
 
 pub record Modest (lim : Limits) : Type 0 where

@@ -1,5 +1,5 @@
 -- What a report depends on, and what it tells. Statements only.
-use Rattle.std.specs.Prelude.{◌≡◌, map, T, ℕ}
+use Rattle.std.specs.Prelude.{◌≡◌, map, T}
 use Rattle.model.specs.Limits.{Limits}
 use Rattle.model.specs.Step.{State}
 use Rattle.model.specs.Pattern.{left_value, right_value}

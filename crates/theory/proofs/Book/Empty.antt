@@ -6,7 +6,6 @@ use native.Mathlib.Omega.{arith}
 use borrow.Author.Tests.{le-leb}
 use lib.ListN.{length, take, length-append}
 use lib.Seq.{take-append_seam, length-take-le}
-use lib.Dec.{T}
 use Rattle.leb128.specs.Number.{read_groups, at_most, read, write}
 use Rattle.model.specs.Limits.{Limits, office, max_session, session_capacity}
 use Rattle.model.specs.Lists.{all, keep, from, concat_map, is_empty}

@@ -10,11 +10,14 @@ ghost use Rattle.model.specs.Area.{area_length};
 ghost use Rattle.theory.specs.Lengths.{longest_session_report};
 ghost use Rattle.session.specs.text.Text.{line_most};
 ghost use Rattle.printing.specs.whole.Loop.{standing, end_from, session_end};
-ghost use Rattle.io.specs.Counts.{IsPrefixLen};
+ghost use Rattle.sessions.specs.Counts.{IsPrefixLen};
 
-use libc::{STDERR_FILENO, STDIN_FILENO, STDOUT_FILENO};
+use arrayvec::ArrayString;
 use printing::turns::Printout;
 use session::steps::Begun;
+use std::fmt::Write;
+use std::io;
+use std::io::{Print, Read};
 
 // The bytes of an area of the session's capacity, of the longest report, and of the longest line of text.
 const AREA: usize = layout::limits::WORD_BYTES
@@ -27,52 +30,71 @@ const REPORT: usize = 24068;
 
 const LINE: usize = 33 + 6 * REPORT;
 
+// At least the bytes of the text of an error.
+const REASON: usize = 320;
+
+// The text of an error without its number.
+fn words(reason: &str) -> &str {
+    match reason.rsplit_once(" (os error ") {
+        Some((words, _)) => words,
+        None => reason,
+    }
+}
+
+// Says on standard error what failed, and the system's text for the error.
+fn fail(stderr: &impl Print, what: &str, error: io::Error) {
+    let mut reason = ArrayString::<REASON>::new();
+    let _ = write!(reason, "{error}");
+    let words = words(reason.as_str());
+    let _ = println!(stderr; "sessions: {what}: {words}");
+}
+
 // Reads standard input until it ends, the buffer is full or a read fails, and gives the number of bytes. A failed read is said.
-fn read_input(buf: &mut [u8]) -> usize
+fn read_input(stdin: &mut impl Read, stderr: &impl Print, buf: &mut [u8]) -> usize
     ensures { IsPrefixLen result buf.new }
 {
     let mut done: usize = 0;
     while done < buf.len() {
-        let got = libc::read(STDIN_FILENO, &mut buf[done..]);
-        if got < 0 {
-            os::fail(b"sessions: standard input");
-            return done;
+        match stdin.read(&mut buf[done..]) {
+            Ok(0) => return done,
+            Ok(more) => done += more,
+            Err(error) => {
+                fail(stderr, "standard input", error);
+                return done;
+            }
         }
-        let more = io::count(got, &buf[done..]);
-        if more == 0 {
-            return done;
-        }
-        done += more;
     }
     done
 }
 
 // Prints a text where all before it were printed; false where one of them, or this, cannot be. The first that cannot be is said.
-fn print(printed: bool, text: &[u8]) -> bool {
+fn print(stdout: &impl Print, stderr: &impl Print, printed: bool, text: &[u8]) -> bool {
     if !printed {
         return false;
     }
-    if io::write_all(STDOUT_FILENO, text) {
-        return true;
+    match stdout.write_all(text) {
+        Ok(()) => true,
+        Err(error) => {
+            fail(stderr, "standard output", error);
+            false
+        }
     }
-    os::fail(b"sessions: standard output");
-    false
 }
 
 // Says on standard error where the opening is refused, and nothing where it is accepted.
-fn tell_opening(input: &[u8], begun: Begun) {
+fn tell_opening(stderr: &impl Print, input: &[u8], begun: Begun) {
     let mut line = [0u8; session::said::MOST];
     let n = session::said::of_opening(input, begun, &mut line);
-    io::write_all(STDERR_FILENO, &line[..n]);
+    let _ = stderr.write_all(&line[..n]);
 }
 
 // The same of the step at position `at`, where the session stops at it.
-fn tell_step(input: &[u8], at: usize)
+fn tell_step(stderr: &impl Print, input: &[u8], at: usize)
     requires { at ≤ max_session }
 {
     let mut line = [0u8; session::said::MOST];
     let n = session::said::of_command(input, at, &mut line);
-    io::write_all(STDERR_FILENO, &line[..n]);
+    let _ = stderr.write_all(&line[..n]);
 }
 
 // The text that a turn shows.
@@ -90,6 +112,8 @@ fn shown<'a>(t: Printout, report: &'a [u8], text: &'a [u8]) -> &'a [u8]
 // All steps from position `first` on, until the session is over; the answer is the position there. `opened` says that the opening's
 // line was printed: where a text cannot be printed, none behind it is, but the steps are taken.
 fn steps(
+    stdout: &impl Print,
+    stderr: &impl Print,
     input: &[u8],
     first: usize,
     area: &mut [u8],
@@ -109,8 +133,8 @@ fn steps(
     let mut printed = opened;
     while at < input.len() {
         let t = printing::turns::take_turn(input, at, area, out, report, kept, text);
-        printed = print(printed, shown(t, report, text));
-        tell_step(input, at);
+        printed = print(stdout, stderr, printed, shown(t, report, text));
+        tell_step(stderr, input, at);
         at = t.next;
         kept = t.kept;
     }
@@ -120,6 +144,8 @@ fn steps(
 // The opening, and the steps where it is accepted; the answer is the position at the end. The area and the output are as long as a
 // session needs, so the texts are those of the session (printing specs/whole/Loop.antt: `TextOfSession`).
 fn run_session(
+    stdout: &impl Print,
+    stderr: &impl Print,
     input: &[u8],
     area: &mut [u8],
     out: &mut [u8],
@@ -134,26 +160,37 @@ fn run_session(
 {
     let begun = session::steps::open(input, area);
     let n = printing::lines::opening(begun, text);
-    let opened = print(true, &text[..n]);
-    tell_opening(input, begun);
+    let opened = print(stdout, stderr, true, &text[..n]);
+    tell_opening(stderr, input, begun);
     match begun {
         Begun::Refused(refusal) => input.len(),
-        Begun::At(first) => steps(input, first, area, out, report, text, opened),
+        Begun::At(first) => steps(
+            stdout, stderr, input, first, area, out, report, text, opened,
+        ),
     }
 }
 
 // A session in buffers of its own.
-fn run(input: &[u8]) {
+fn run(stdout: &impl Print, stderr: &impl Print, input: &[u8]) {
     let mut area = [0u8; AREA];
     let mut out = [0u8; REPORT];
     let mut report = [0u8; LINE];
     let mut text = [0u8; LINE];
-    let end = run_session(input, &mut area, &mut out, &mut report, &mut text);
+    let end = run_session(
+        stdout,
+        stderr,
+        input,
+        &mut area,
+        &mut out,
+        &mut report,
+        &mut text,
+    );
 }
 
-fn main() {
+fn main(rt: HostRuntime) {
+    let stderr = rt.stderr();
     // one byte more than the longest session shows that a session is too long
     let mut input = [0u8; session::steps::LONGEST + 1];
-    let n = read_input(&mut input);
-    run(&input[..n]);
+    let n = read_input(&mut rt.stdin(), &stderr, &mut input);
+    run(&rt.stdout(), &stderr, &input[..n]);
 }

@@ -9,7 +9,7 @@ use Rattle.model.specs.Limits.{Limits}
 use Rattle.model.specs.Lists.{concat_map}
 use Rattle.model.specs.Step.{State, Answer, refused, accepted}
 use Rattle.model.specs.Area.{word_size, to_bytes, area_bytes, area_length, sound, state_of}
-use Rattle.model.specs.Call.{Outcome, refuse, accept, guard, over, stepped, call_add, call_bind}
+use Rattle.model.specs.Call.{refuse, accept, guard, over, stepped, call_add, call_bind}
 use Rattle.theory.proofs.Area.Bytes.{sound_carries}
 use Rattle.theory.proofs.Lists.Laws.{true_T}
 use Rattle.layout.specs.limits.Rows.{Loaded, Sized, loaded_state}

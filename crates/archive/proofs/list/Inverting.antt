@@ -1,13 +1,12 @@
 -- The inverse of a list, number by number. A place is taken where the number that stands there is this one. Assumes nothing.
-use mathlib.Core.Path.{◌≡◌, refl, ap, sym, ◌∙◌}
+use mathlib.Core.Path.{◌≡◌, ap, sym, ◌∙◌}
 use mathlib.Core.List.{List}
 use mathlib.Core.Bool.{true, false}
 use Prim.Native.Nat.{ℕ, ◌+◌, ◌≤◌, ◌<◌}
 use native.Mathlib.Decide.{dec_lt}
 use native.Mathlib.Omega.{arith}
-use lib.ListN.{length, get_or, set, take}
+use lib.ListN.{length, set, take}
 use lib.Seq.{length-take-le, get_or-take, get_or-set_same, get_or-set_other}
-use lib.Dec.{T}
 use Rattle.model.specs.Archive.{new_number, old_number, all_distinct}
 use Rattle.theory.specs.Numbering.{Distinct}
 use Rattle.theory.specs.Archive.{EachOnce}

@@ -1,19 +1,17 @@
 -- The numbers of a list read one after the other. Assumes nothing.
-use mathlib.Core.Path.{◌≡◌, refl, ap, sym, ◌∙◌}
-use mathlib.Core.List.{List, [], ◌∷◌, ◌++◌, append-nil}
+use mathlib.Core.Path.{◌≡◌, refl, ap, ◌∙◌}
+use mathlib.Core.List.{List, [], ◌∷◌, ◌++◌}
 use mathlib.Core.Bool.{Bool, true, false, ◌&&◌, and-true}
 use Prim.Native.Nat.{ℕ, zero, suc, ◌+◌, ◌-◌, ◌≤◌, ◌<◌}
 use native.Mathlib.Nat.{zero-add, suc-add}
 use native.Mathlib.Omega.{arith}
-use borrow.Author.Tests.{lt-ltb, le-ltb}
 use lib.ListN.{length, set, take, drop, length-set}
 use lib.Seq.{take-suc-set}
 use lib.Dec.{ltb}
-use Rattle.model.specs.Lists.{all, is_empty}
+use Rattle.model.specs.Lists.{all}
 use Rattle.model.specs.BookBytes.{Parsed, parsed, unparsed, and_then, need, parse_number}
 use Rattle.model.specs.Archive.{parse_numbers}
 use Rattle.theory.proofs.Lists.Laws.{all_append}
-use Rattle.book.specs.parse.Parts.{outcome}
 use Rattle.book.proofs.decode.Whole.{left-none, left_some}
 use Rattle.archive.specs.list.Listed.{parse_named}
 

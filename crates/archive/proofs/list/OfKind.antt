@@ -1,15 +1,15 @@
 -- The terms of one kind, one term more; both kinds are the list of a stored book. Assumes nothing.
 use mathlib.Core.Path.{◌≡◌, refl, ap, ap₂, sym, ◌∙◌}
-use mathlib.Core.List.{List, [], ◌∷◌, ◌++◌, append-nil, map}
+use mathlib.Core.List.{List, [], ◌∷◌, ◌++◌, append-nil}
 use mathlib.Core.Bool.{Bool, true, false, cond, not, beq}
 use Prim.Native.Nat.{ℕ, ◌+◌, ◌*◌, ◌-◌, ◌≤◌, ◌<◌}
 use native.Mathlib.Nat.{zero-add}
 use native.Mathlib.Omega.{arith}
-use lib.ListN.{length, get_or, set, length-append, length-map}
+use lib.ListN.{length, get_or, set, length-append}
 use lib.Seq.{sets, length-sets}
 use lib.Dec.{eqb}
 use Rattle.model.specs.Lists.{keep, from}
-use Rattle.model.specs.Term.{Node, var, app, Book}
+use Rattle.model.specs.Term.{var, app}
 use Rattle.model.specs.Area.{term_words}
 use Rattle.model.specs.Archive.{is_variable, variables_first}
 use Rattle.theory.proofs.Lists.Laws.{length_from, from-append}

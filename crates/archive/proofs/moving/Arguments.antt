@@ -6,14 +6,14 @@ use Prim.Native.Nat.{ℕ, suc, ◌+◌, ◌*◌, ◌-◌, ◌≤◌, ◌<◌}
 use native.Mathlib.Numerals.{add-one}
 use native.Mathlib.Omega.{arith}
 use borrow.Author.Tests.{eq-eqb, ne_eqb}
-use lib.ListN.{length, get_or, set, take, drop, length-append, length-map, length-drop}
+use lib.ListN.{length, set, take, drop, length-append, length-map, length-drop}
 use lib.Seq.{sets, length-sets, take-suc, length-take-le, get_or-take, get_or-drop}
-use lib.Dec.{ltb, eqb}
+use lib.Dec.{ltb}
 use Rattle.model.specs.Limits.{max_arity}
 use Rattle.leb128.specs.Number.{max_groups, write}
 use Rattle.leb128.proofs.Writing.{one_byte_lem}
 use Rattle.model.specs.Lists.{all, concat_map}
-use Rattle.model.specs.Term.{Node, var, app, arguments}
+use Rattle.model.specs.Term.{Node, app, arguments}
 use Rattle.model.specs.Area.{term_words}
 use Rattle.model.specs.Report.{number_bytes}
 use Rattle.model.specs.BookBytes.{node_numbers}

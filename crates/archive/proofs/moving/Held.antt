@@ -1,17 +1,16 @@
 -- Rows that hold a book can be moved by a list that names every term once, and by its inverse. Assumes nothing.
-use mathlib.Core.Path.{◌≡◌, refl, ap, sym, ◌∙◌}
+use mathlib.Core.Path.{◌≡◌, ap, sym, ◌∙◌}
 use mathlib.Core.List.{List}
 use Prim.Native.Nat.{ℕ, ◌*◌, ◌≤◌, ◌<◌}
 use native.Mathlib.Omega.{arith}
 use lib.ListN.{length, get_or, take}
 use lib.Seq.{get_or-take}
-use Rattle.model.specs.Limits.{max_arity}
 use Rattle.model.specs.Term.{var, arguments, Book, Bindings}
 use Rattle.model.specs.Area.{term_words}
 use Rattle.model.specs.Archive.{new_number, old_number, moved}
 use Rattle.theory.specs.Archive.{EachOnce}
 use Rattle.theory.proofs.Archive.Moved.{new-lt}
-use Rattle.layout.specs.limits.Rows.{at, node_of, book_of}
+use Rattle.layout.specs.limits.Rows.{at, node_of}
 use Rattle.book.proofs.encode.RowsBook.{rows-length, small_count}
 use Rattle.book.proofs.encode.BookHeld.{BookHeld, held-book}
 use Rattle.archive.specs.list.Listed.{Inverse}

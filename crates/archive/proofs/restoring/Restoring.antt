@@ -5,7 +5,7 @@ use mathlib.Core.Bool.{Bool, true, false}
 use mathlib.Core.Option.{none}
 use Prim.Native.Nat.{ℕ, zero, suc, ◌*◌, ◌≤◌, ◌<◌}
 use native.Mathlib.Omega.{arith}
-use lib.ListN.{length, get_or, take, replicate, length-replicate}
+use lib.ListN.{length, take, replicate, length-replicate}
 use lib.Seq.{length-take-le, get_or-take}
 use lib.Dec.{T, ltb, ltb→lt}
 use Rattle.model.specs.Limits.{Limits}
@@ -13,11 +13,11 @@ use Rattle.model.specs.Lists.{all, is_empty}
 use Rattle.model.specs.Term.{Node, Book, Bindings}
 use Rattle.model.specs.Area.{term_words}
 use Rattle.model.specs.BookBytes.{Parsed, parsed, unparsed, and_then, need, parse_book, book_bytes}
-use Rattle.model.specs.Archive.{new_number, old_number, moved, restored_book, parse_numbers, all_distinct, parse_list, arguments_lower, restore_by, parse_restored}
+use Rattle.model.specs.Archive.{restored_book, parse_numbers, all_distinct, parse_list, arguments_lower, restore_by, parse_restored}
 use Rattle.theory.specs.Modest.{Modest}
 use Rattle.theory.specs.Archive.{EachOnce}
 use Rattle.theory.proofs.Lists.Laws.{all-at, true_T}
-use Rattle.theory.proofs.Book.Gives.{Gives, gives_at, need_gives, and_then-any}
+use Rattle.theory.proofs.Book.Gives.{gives_at, need_gives, and_then-any}
 use Rattle.theory.proofs.Book.Round.{parsed_formed}
 use Rattle.theory.proofs.Refusals.Deciding.{tells_of}
 use Rattle.theory.proofs.Refusals.Archive.{tells_distinct}
@@ -27,7 +27,6 @@ use Rattle.layout.specs.limits.Rows.{at, book_of}
 use Rattle.book.specs.decode.Rows.{book_rows, decoded_refusal, decoded_book}
 use Rattle.book.specs.parse.Parts.{outcome}
 use Rattle.book.proofs.decode.Outcome.{outcome_decoded, decoded, not_decoded}
-use Rattle.book.proofs.encode.BookHeld.{BookHeld}
 use Rattle.book.proofs.encode.Copied.{Decoded, decoded_few}
 use Rattle.archive.specs.list.Listed.{parse_named, Inverse}
 use Rattle.archive.specs.moving.Moving.{RowsMove, moved_book}

@@ -9,12 +9,12 @@ use lib.ListN.{length, get_or, take, replicate, length-replicate}
 use lib.Seq.{sets, sets-eq, length-sets, get_or-take, take-append_seam}
 use lib.Dec.{le→leb}
 use Rattle.leb128.specs.Number.{max_number}
-use Rattle.model.specs.Limits.{Limits, office}
+use Rattle.model.specs.Limits.{Limits}
 use Rattle.model.specs.Term.{Node, Book, Bindings}
 use Rattle.model.specs.Area.{term_words}
 use Rattle.model.specs.Report.{number_bytes}
-use Rattle.model.specs.BookBytes.{Parsed, parsed, parse_book, book_bytes}
-use Rattle.model.specs.Archive.{variables_first, new_number, old_number, moved, stored_book, all_distinct, not_stored, emit_both, store_parsed, call_store}
+use Rattle.model.specs.BookBytes.{parse_book, book_bytes}
+use Rattle.model.specs.Archive.{variables_first, new_number, old_number, stored_book, all_distinct, not_stored, emit_both, store_parsed, call_store}
 use Rattle.theory.specs.Modest.{Modest}
 use Rattle.theory.specs.Archive.{EachOnce}
 use Rattle.theory.proofs.Lists.Laws.{all_intro}
@@ -35,7 +35,7 @@ use Rattle.book.proofs.encode.Copied.{Decoded, decoded_few}
 use Rattle.archive.specs.list.Listed.{Inverse}
 use Rattle.archive.specs.storing.Lent.{Lent}
 use Rattle.archive.specs.moving.Moving.{RowsMove, moved_book}
-use Rattle.archive.proofs.moving.Held.{held_rows, held_moves, held_stored}
+use Rattle.archive.proofs.moving.Held.{held_moves, held_stored}
 use Rattle.archive.proofs.storing.Both.{writes_both}
 
 -- What is lent has its lengths.

@@ -4,7 +4,7 @@ use mathlib.Core.Logic.{⊎_elim}
 use Prim.Native.Nat.{◌-◌}
 use native.Mathlib.Omega.{arith}
 use borrow.Author.Rules.{rules}
-use borrow.Author.Tests.{eqb-true, eqb-false}
+use borrow.Author.Tests.{eqb-true}
 use Rattle.pairs.specs.Index.{cells_of}
 use Rattle.pairs.proofs.Descent.{Sought, sought_head, sought_none, sought_at, sought_found, sought_next}
 use Rattle.pairs.proofs.search.Statement.{statement}

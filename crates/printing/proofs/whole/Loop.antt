@@ -1,7 +1,7 @@
 -- The statements of specs/whole/Loop.antt, proved: all turns are taken, and what they print is the text of the session. Assumes
 -- nothing.
 use mathlib.Core.Path.{◌≡◌, refl, ap, sym, ◌∙◌}
-use mathlib.Core.List.{List, [], ◌∷◌, ◌++◌}
+use mathlib.Core.List.{List, [], ◌++◌}
 use mathlib.Core.Bool.{Bool, true, false, cond}
 use Prim.Native.Nat.{ℕ, zero, suc, ◌+◌, ◌≤◌, ◌<◌}
 use native.Mathlib.Omega.{arith}
@@ -16,7 +16,7 @@ use Rattle.session.specs.declared.steps.Begun.TheVariants.{Refused as NotBegun, 
 use Rattle.session.specs.declared.steps.Reply.{Reply}
 use Rattle.session.specs.declared.steps.Reply.TheVariants.{Ended, Stopped, Answered, NotReported, Reported}
 use Rattle.session.specs.text.Text.{line_text, lines_text}
-use Rattle.session.specs.steps.Effects.{Start, Effect, start, step_at, next_or, first_or}
+use Rattle.session.specs.steps.Effects.{Start, Effect, start, next_or, first_or}
 use Rattle.session.specs.steps.Lines.{opening_line, lines}
 use Rattle.printing.specs.turns.Turns.{printed}
 use Rattle.printing.specs.whole.Whole.{onward, after_opening, steps_from, all_steps, session_on_bytes}

@@ -1,6 +1,6 @@
 -- A session on bytes: opening it, and one step of it, by the calls on an area (document 01, "Sessions"). The input is read at
 -- positions; a step gets the area and the output as the last one left them. Assumes nothing: these are definitions.
-use Rattle.std.specs.Prelude.{List, Bool, true, false, cond, ℕ, ◌+◌, ◌-◌, length, get_or, take, drop, eqb, leb}
+use Rattle.std.specs.Prelude.{List, cond, ℕ, ◌+◌, ◌-◌, length, get_or, take, drop, eqb, leb}
 use Rattle.leb128.specs.Number.{max_groups, max_number}
 use Rattle.leb128.specs.Answer.{read_at}
 use Rattle.leb128.specs.declared.Decoded.{Decoded}

@@ -25,7 +25,7 @@ use Rattle.table.proofs.place.Placing.{few-entries}
 use Rattle.step.specs.declared.answer.Step.TheVariants.{Add}
 use Rattle.step.specs.declared.answer.StepAnswer.TheVariants.{Refused, Added}
 use Rattle.step.specs.declared.answer.Stepped.{Stepped}
-use Rattle.step.specs.answer.Stepped.{entry_number, step_numbers, accepted_as, Leaves}
+use Rattle.step.specs.answer.Stepped.{step_numbers, accepted_as, Leaves}
 use Rattle.step.proofs.answer.Tables.{ready-known, to_index}
 use Rattle.step.proofs.answer.Leaving.{table-words, leaves, gives_refused, gives_accepted}
 use Rattle.step.specs.grow.Growing.{ToGrow, IsGrown}

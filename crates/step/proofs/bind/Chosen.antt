@@ -1,6 +1,6 @@
 -- A choice on a loaded state: what the tests before the walk leave to the rest, and the answer. Assumes nothing.
 use mathlib.Core.Path.{◌≡◌, refl, sym, ◌∙◌}
-use mathlib.Core.List.{List, [], ◌∷◌}
+use mathlib.Core.List.{List}
 use mathlib.Core.Bool.{Bool, true, false}
 use mathlib.Core.Option.{some}
 use Prim.Native.Nat.{ℕ, ◌+◌, ◌≤◌, ◌<◌}
@@ -30,7 +30,7 @@ use Rattle.area.proofs.load.Uses.{ready_facts, ready-holds}
 use Rattle.table.specs.place.Stands.{HoldsTable}
 use Rattle.step.specs.declared.answer.Step.TheVariants.{Bind}
 use Rattle.step.specs.declared.answer.StepAnswer.TheVariants.{Refused}
-use Rattle.step.specs.answer.Stepped.{turned_number, appended_number, step_numbers, accepted_as, header_after, Leaves, Gives}
+use Rattle.step.specs.answer.Stepped.{step_numbers, accepted_as, header_after, Leaves, Gives}
 use Rattle.step.specs.declared.answer.Stepped.{Stepped}
 use Rattle.step.proofs.answer.Tables.{held-table}
 use Rattle.step.proofs.answer.Leaving.{table-words, leaves, gives_refused, gives_accepted}

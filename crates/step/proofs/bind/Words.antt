@@ -11,7 +11,7 @@ use lib.Dec.{T}
 use borrow.Author.Tests.{ne_eqb}
 use Rattle.model.specs.Lists.{padded}
 use Rattle.model.specs.Area.{binding_word}
-use Rattle.layout.specs.limits.Rows.{at, binding_of, bound_of}
+use Rattle.layout.specs.limits.Rows.{binding_of, bound_of}
 use Rattle.layout.proofs.limits.Rows.{length-bound_of, get_or-bound_of, binding_words}
 use Rattle.soundness.specs.rows.RowTests.{zero_from}
 use Rattle.soundness.proofs.sound.Padded.{to_padded}

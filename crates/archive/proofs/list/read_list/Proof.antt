@@ -1,6 +1,6 @@
 -- `list::read_list` meets its contract: the loop's invariant says that the first `i` numbers are read. Assumes nothing.
 use mathlib.Core.Logic.{⊎_elim}
-use mathlib.Core.Path.{◌≡◌, refl, sym, ◌∙◌}
+use mathlib.Core.Path.{◌≡◌, refl}
 use mathlib.Core.Bool.{and-true, and-false}
 use Prim.Native.Nat.{◌-◌}
 use native.Mathlib.Omega.{arith}

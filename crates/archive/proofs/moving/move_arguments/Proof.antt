@@ -1,6 +1,5 @@
 -- `moving::move_arguments` meets its contract: the loop's invariant says that the first `j` arguments are moved. Assumes nothing.
 use mathlib.Core.Logic.{⊎_elim}
-use mathlib.Core.Path.{◌≡◌, sym, ◌∙◌}
 use mathlib.Core.Bool.{and-true, and-false}
 use Prim.Native.Nat.{◌+◌, ◌-◌}
 use native.Mathlib.Omega.{arith}

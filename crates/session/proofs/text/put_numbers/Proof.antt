@@ -1,7 +1,7 @@
 -- `text::put_numbers` meets its contract. The loop's invariant: the numbers up to the position are written (proofs/text/Numbers.antt,
 -- `Shown`). The measure is what is left of the bytes. Assumes nothing.
 use mathlib.Core.Path.{refl}
-use Prim.Native.Nat.{◌-◌, ◌<◌}
+use Prim.Native.Nat.{◌-◌}
 use native.Mathlib.Omega.{arith}
 use lib.ListN.{length}
 use borrow.Author.Rules.{rules}

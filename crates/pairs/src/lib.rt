@@ -19,11 +19,12 @@ struct Found {
 }
 
 // The hash of the pair (a, b).
+#[tactic(auto, unfolding(crate::specs::Index::hash_of))]
 fn hash(a: u32, b: u32) -> u64
     ensures { result ≡ hash_of a b }
 {
-    let low = (a as u64) * 16384 + (b as u64) % 16384;
-    low * 204665 % 70368744177664 + (b as u64) / 16384 * 70368744177664
+    let low = u64::from(a) * 16384 + u64::from(b) % 16384;
+    low * 204665 % 70368744177664 + u64::from(b) / 16384 * 70368744177664
 }
 
 // The first place of (a, b) among the first `count` pairs, or else `count`, the next free place; and the cell where the way ends.

@@ -1,9 +1,5 @@
 -- The search down a tree: what is known of the cell that it has come to. Assumes nothing.
-use mathlib.Core.Path.{◌≡◌, refl, sym, ◌∙◌}
-use mathlib.Core.List.{List}
-use Prim.Native.Nat.{ℕ, zero, suc, ◌+◌, ◌*◌, ◌-◌, ◌/◌, ◌%◌, ◌≤◌, ◌<◌}
-use native.Mathlib.Omega.{arith}
-use lib.ListN.{get_or}
+use Rattle.std.proofs.Common.{◌≡◌, refl, sym, ◌∙◌, List, ℕ, zero, suc, ◌+◌, ◌*◌, ◌-◌, ◌/◌, ◌%◌, ◌≤◌, ◌<◌, arith, get_or}
 use Rattle.pairs.specs.Pairs.{place_of}
 use Rattle.pairs.specs.Index.{buckets, hash_of, bucket_of, way_of, cells_of, cell_below, Leads, here, down, Indexed, LinksKept, Searched}
 use Rattle.pairs.proofs.Laws.{Holds, place-holds, place-least, place_none}

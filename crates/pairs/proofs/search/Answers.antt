@@ -9,7 +9,7 @@ pub loop-link-init : goal.loop-link-init
 loop-link-init c = sought_head c.requires _ c.hash-mixed.ensures
 
 pub loop-link-smaller : goal.loop-link-smaller
-loop-link-smaller c = omega (arith, (sought_at c.requires c.loop-link.invariant c.if-link-eq0.false).1, c.loop-link.invariant.low)
+loop-link-smaller c = omega (arith, (sought_at c.requires c.loop-link.invariant c.if-link-eq0.false).1)
 
 pub loop-link-preserved : goal.loop-link-preserved
 loop-link-preserved c =

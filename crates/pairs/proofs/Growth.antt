@@ -97,8 +97,8 @@ module _ {lefts rights cells : List ℕ} {n : ℕ} (ix : Indexed lefts rights ce
   later-wide : (c p : ℕ) → c < cells_of (suc n) → get_or (wider cells n) c 0 ≡ suc p → (p < n) × (c < cells_of p)
   later-wide c p l e =
       elim (lt-or-le c (cells_of n)) [
-        inl h ↦ ix.later c p h (sym (wide.same c h) ∙ e)
-      | inr h ↦ absurd (omega (arith, wide.bare c h l))
+        | inl h ↦ ix.later c p h (sym (wide.same c h) ∙ e)
+        | inr h ↦ absurd (omega (arith, wide.bare c h l))
       ]
 
   pub pushed_there : (r.place ≡ n → ⊥)
@@ -134,10 +134,10 @@ module _ {lefts rights cells : List ℕ} {n : ℕ} (ix : Indexed lefts rights ce
     later-put : (c p : ℕ) → c < cells_of (suc n) → get_or joined c 0 ≡ suc p → (p < suc n) × (c < cells_of p)
     later-put c p l e =
         elim (eq-or-not c r.cell) [
-          inl q ↦
-          let own : p ≡ n = omega (arith, rw q at e, put-here) in
-          (omega arith, omega (arith, ends.low))
-        | inr q ↦ let old = later-wide c p l (sym (put_other c q) ∙ e) in (omega arith, old.1)
+          | inl q ↦
+              let own : p ≡ n = omega (arith, rw q at e, put-here) in
+              (omega arith, omega (arith, ends.low))
+          | inr q ↦ let old = later-wide c p l (sym (put_other c q) ∙ e) in (omega arith, old.1)
         ]
 
     pub pushed_new : Pushed lefts rights (set lefts n a) (set rights n b) (set (set (set cells (cells_of n) 0) (cells_of n + 1) 0) r.cell (n + 1)) n a b r.place

@@ -1,5 +1,5 @@
 -- Laws of the first place of a pair: where it lies, what stands there, and what a further pair changes. Assumes nothing.
-use Rattle.std.proofs.Common.{◌≡◌, ap, sym, ◌∙◌, List, ◌⊎◌, inl, inr, ℕ, suc, ◌≤◌, ◌<◌, arith, length, get_or, set, get_or-set_same, get_or-set_other, T, eqb, eqb→eq}
+use Rattle.std.proofs.Common.{◌≡◌, ap, sym, ◌∙◌, List, inl, inr, ℕ, suc, ◌≤◌, ◌<◌, arith, length, get_or, set, get_or-set_same, get_or-set_other, T, eqb, eqb→eq}
 use Rattle.std.proofs.Math.ListN.{length-map}
 use Rattle.std.proofs.lemmas.List.{get_or-map}
 use Rattle.std.proofs.Math.Dec.{eqb_refl}
@@ -105,10 +105,10 @@ module _ (lefts rights : List ℕ) (n i a b : ℕ) (there : i < n) (held : Holds
   pub place_at : place_of lefts rights n a b ≡ place_of lefts rights i a b
   place_at =
       elim (lt-or-le (place_of lefts rights i a b) i) [
-        inl p ↦ place-longer lefts rights i n a b (omega arith) p
-      | inr p ↦
-        let up = place_mono lefts rights lefts rights i n a b (omega arith) (λ j l g. g) in
-        omega (arith, up, place-least lefts rights n a b i there held)
+        | inl p ↦ place-longer lefts rights i n a b (omega arith) p
+        | inr p ↦
+            let up = place_mono lefts rights lefts rights i n a b (omega arith) (λ j l g. g) in
+            omega (arith, up, place-least lefts rights n a b i there held)
       ]
 
 -- One pair more: (a, b) at place n.
@@ -143,11 +143,11 @@ module _ (lefts rights : List ℕ) (n a b : ℕ) (room-left : n < length lefts) 
       none : (i : ℕ) → i < suc n → Holds (set lefts n a) (set rights n b) i x y → ⊥
       none i l h =
           elim (lt-or-le i n) [
-            inl p ↦
-            let below = place-least lefts rights n x y i p (kept_back (kept_set lefts rights n a b) i x y p h) in
-            omega arith
-          | inr p ↦
-            let here : i ≡ n = omega arith in
-            let own : Holds (set lefts n a) (set rights n b) n x y = rw here at h in
-            g (sym own.left ∙ holds-set.left) (sym own.right ∙ holds-set.right)
+            | inl p ↦
+                let below = place-least lefts rights n x y i p (kept_back (kept_set lefts rights n a b) i x y p h) in
+                omega arith
+            | inr p ↦
+                let here : i ≡ n = omega arith in
+                let own : Holds (set lefts n a) (set rights n b) n x y = rw here at h in
+                g (sym own.left ∙ holds-set.left) (sym own.right ∙ holds-set.right)
           ]

@@ -28,6 +28,7 @@ fn hash(a: u32, b: u32) -> u64
 }
 
 // The first place of (a, b) among the first `count` pairs, or else `count`, the next free place; and the cell where the way ends.
+// No Option: the search yields a place either way, as document 01 has it.
 fn search(lefts: &[u32], rights: &[u32], cells: &[u32], count: usize, a: u32, b: u32) -> Found
     requires { Indexed lefts.now rights.now cells.now count }
     ensures { Searched lefts.now rights.now cells.now count a b result }
@@ -35,8 +36,8 @@ fn search(lefts: &[u32], rights: &[u32], cells: &[u32], count: usize, a: u32, b:
     let mixed = hash(a, b);
     let mut way = mixed % 65536 + mixed / 268435456 * 65536;
     let mut cell = (mixed / 65536) as usize % BUCKETS;
-    let mut link = cells[cell];
     let place = loop {
+        let link = cells[cell];
         if link == 0 {
             break count;
         }
@@ -45,8 +46,7 @@ fn search(lefts: &[u32], rights: &[u32], cells: &[u32], count: usize, a: u32, b:
             break at;
         }
         cell = BUCKETS + 2 * at + (way % 2) as usize;
-        link = cells[cell];
-        way = way / 2;
+        way /= 2;
     };
     Found { place, cell }
 }
@@ -56,8 +56,7 @@ pub fn find(lefts: &[u32], rights: &[u32], cells: &[u32], count: usize, a: u32, 
     requires { Indexed lefts.now rights.now cells.now count }
     ensures { result ≡ place_of lefts.now rights.now count a b }
 {
-    let found = search(lefts, rights, cells, count, a, b);
-    found.place
+    search(lefts, rights, cells, count, a, b).place
 }
 
 // Puts (a, b) at place `count`, and answers its first place: an older one, or else `count`, to which a link goes then.
@@ -80,8 +79,7 @@ pub fn push(
     cells[own] = 0;
     cells[own + 1] = 0;
     if found.place == count {
-        let cell = found.cell;
-        cells[cell] = (count + 1) as u32;
+        cells[found.cell] = (count + 1) as u32;
     }
     found.place
 }

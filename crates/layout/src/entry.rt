@@ -61,11 +61,7 @@ fn put_words(entries: &mut [u32], at: usize, words: &[u32])
     requires { at + length words.now ≤ length entries.old }
     ensures { entries.new ≡ paste entries.old at words.now (length words.now) }
 {
-    let mut i = 0;
-    while i < words.len() {
-        entries[at + i] = words[i];
-        i += 1;
-    }
+    entries[at..at + words.len()].copy_from_slice(words);
 }
 
 // Puts the entry into row `i`.

@@ -42,6 +42,7 @@ pub fn store(area: &mut [u8], start: usize, words: &[u32])
 }
 
 // Puts zeros from byte `from` up to byte `to`.
+// Words have `clearing::clear`: each is one call of the library, so that one generic function is no plainer.
 pub fn clear(area: &mut [u8], from: usize, to: usize)
     requires { (from ≤ to) × (to ≤ length area.old) }
     ensures { area.new ≡ cleared area.old from to }

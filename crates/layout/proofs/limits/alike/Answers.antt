@@ -1,4 +1,4 @@
--- The result is the rest of the tests, where those before it hold. Assumes nothing.
+-- Each test, where those before it hold. Assumes nothing.
 use Rattle.std.proofs.Common.{◌≡◌, Bool, true, false, ◌∙◌, sym, eq-eqb}
 use Rattle.layout.proofs.limits.Symbols.{alike-variable, alike-words}
 use Rattle.layout.proofs.limits.alike.Goals as goal
@@ -11,7 +11,7 @@ pub returns-then-rows-left : goal.returns-then-rows-left
 returns-then-rows-left c =
     elim c.if-rows-left-ne0.branch [
       | then-rows-left-ne0 w ↦
-          sym (alike-words _ _ _ w.if-rows-left-ne0.true c.requires.left c.requires.right ∙ rw (sym w.value-is ∙ c.if-rows-left.true))
+          alike-words _ _ _ w.if-rows-left-ne0.true c.requires.left c.requires.right true (sym c.if-rows-left.true ∙ w.value-is)
       | else-rows-left-ne0 w ↦ both c.if-rows-left.true (rw (eq-eqb _ _ w.if-rows-left-ne0.false) at w.value-is)
     ]
 
@@ -19,6 +19,7 @@ pub returns-else-rows-left : goal.returns-else-rows-left
 returns-else-rows-left c =
     elim c.if-rows-left-ne0.branch [
       | then-rows-left-ne0 w ↦
-          c.if-rows-left.false ∙ sym (alike-words _ _ _ w.if-rows-left-ne0.true c.requires.left c.requires.right ∙ rw (sym w.value-is ∙ c.if-rows-left.false))
+          c.if-rows-left.false ∙
+          alike-words _ _ _ w.if-rows-left-ne0.true c.requires.left c.requires.right false (sym c.if-rows-left.false ∙ w.value-is)
       | else-rows-left-ne0 w ↦ c.if-rows-left.false ∙ alike-variable _ _ _ w.if-rows-left-ne0.false
     ]

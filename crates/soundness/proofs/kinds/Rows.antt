@@ -96,7 +96,7 @@ module _ {b : Book} {β : Bindings} {names entries : List ℕ} {m : ℕ} (k : Na
     pub is-symbol : e.symbol ≡ at entries (entry_row_words * i + 2 + 1)
     is-symbol = let there : entry_row_words * i + 2 + 1 ≡ entry_row_words * i + 3 = omega arith in rw there (symbol-read entries i row_within e read)
 
-    few : e.count ≤ max_arity
+    pub few : e.count ≤ max_arity
     few = rw (count-read entries i row_within e read) row.count
 
     pub places : e.count ≤ length e.arguments

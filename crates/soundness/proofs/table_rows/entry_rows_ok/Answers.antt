@@ -7,7 +7,7 @@ use Rattle.soundness.proofs.table_rows.entry_rows_ok.Goals as goal
 use Rattle.soundness.proofs.table_rows.entry_rows_ok.Goals.{After-all}
 
 each : (c : After-all) → c.all.result ≡ all (entry_row_ok c.args.entries.now c.args.n) (from 0 c.args.m)
-each c = all-range (entry_row_ok c.args.entries.now c.args.n) c.args.m c.all.ensures.ran (cc) (λ x b q k. search (rules, tests))
+each c = all-range (entry_row_ok c.args.entries.now c.args.n) c.args.m _ c.all.ensures.runs (cc) (λ x b q k. search (rules, tests))
 
 pub returns-then-all : goal.returns-then-all
 unfolding entry_rows_ok

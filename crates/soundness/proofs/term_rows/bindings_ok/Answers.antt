@@ -13,7 +13,7 @@ abbrev one : List ℕ → List ℕ → ℕ → ℕ → Bool
 one rows bindings n t = binding_ok (book_of rows n) (node_of rows t) (binding_of bindings t)
 
 each : (c : After-all) → c.all.result ≡ all (one c.args.rows.now c.args.bindings.now c.args.n) (from 0 c.args.n)
-each c = all-range (one c.args.rows.now c.args.bindings.now c.args.n) c.args.n c.all.ensures.ran (cc) (λ x b q k. search (rules, tests))
+each c = all-range (one c.args.rows.now c.args.bindings.now c.args.n) c.args.n _ c.all.ensures.runs (cc) (λ x b q k. search (rules, tests))
 
 pub returns-then-all : goal.returns-then-all
 unfolding bindings_ok

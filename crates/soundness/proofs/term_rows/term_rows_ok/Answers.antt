@@ -7,7 +7,7 @@ use Rattle.soundness.proofs.term_rows.term_rows_ok.Goals as goal
 use Rattle.soundness.proofs.term_rows.term_rows_ok.Goals.{After-all}
 
 each : (c : After-all) → c.all.result ≡ all (term_row_ok c.args.rows.now) (from 0 c.args.n)
-each c = all-range (term_row_ok c.args.rows.now) c.args.n c.all.ensures.ran (cc) (λ x b q k. search (rules, tests))
+each c = all-range (term_row_ok c.args.rows.now) c.args.n _ c.all.ensures.runs (cc) (λ x b q k. search (rules, tests))
 
 pub returns-then-all : goal.returns-then-all
 unfolding term_rows_ok

@@ -1,12 +1,11 @@
 -- `kinds::argument_ok`: each return follows the tests that lead there. Assumes nothing.
-use Rattle.std.proofs.Common.{◌≡◌, ◌&&◌, ◌+◌, ◌*◌, ◌<◌, length, eqb, sym, ◌∙◌, arith}
+use Rattle.std.proofs.Common.{◌≡◌, ◌&&◌, ◌<◌, length, eqb, sym, ◌∙◌, arith}
 use Rattle.std.proofs.lemmas.Bool.{eq-eqb, ne_eqb}
 use Rattle.model.specs.Term.{Book, Bindings}
-use Rattle.model.specs.Area.{entry_row_words}
 use Rattle.layout.specs.limits.Rows.{at, table_of}
 use Rattle.soundness.specs.kinds.Known.{Named}
 use Rattle.soundness.specs.kinds.KindTests.{argument_right}
-use Rattle.soundness.proofs.kinds.Rows.{left_lt, right_lt, is-left, is_right, left_side, right_side, argument-names, argument-none}
+use Rattle.soundness.proofs.kinds.Rows.{is-left, is_right, left_side, right_side, argument-names, argument-none}
 use Rattle.soundness.proofs.kinds.argument_ok.Goals as goal
 use Rattle.soundness.proofs.kinds.argument_ok.Goals.{After-entry_at-e}
 

@@ -1,5 +1,5 @@
 -- `kinds::arguments_ok`: the counts differ, or what `all` answers. Assumes nothing.
-use Rattle.std.proofs.Common.{◌≡◌, ℕ, ◌<◌, ◌∙◌, length, sym, inl, inr, arith, rules, tests}
+use Rattle.std.proofs.Common.{ℕ, ◌<◌, ◌∙◌, length, sym, inl, inr, arith, rules}
 use Rattle.layout.specs.limits.Rows.{at, table_of}
 use Rattle.soundness.proofs.rows.Loops.{all-range}
 use Rattle.soundness.proofs.kinds.Arguments.{argument_at, other_left, other_right, arguments_all}

@@ -36,9 +36,9 @@ returns-then-e-eq0 c b β k =
     let symbol = is-symbol n l _ c.entry_at-e.ensures in
     rw (entry-kind _ _ _ l)
     (elim c.then-e-eq0.branch [
-      then-e-eq0-via-then-e-eq0 w ↦ hole-kind b β _ _ _ _ _ _ e (sym at-kind ∙ w.if-e-eq0.true)
-    | then-e-eq0-via-else-e-eq0+then-e-rows w ↦
-        sym (common-kind b β _ _ _ _ _ _ e (λ z. w.if-e-eq0.false (at-kind ∙ z)) ∙ rw (ne_eqb _ _ (rw symbol at w.if-e-rows.true)))
+      | then-e-eq0-via-then-e-eq0 w ↦ hole-kind b β _ _ _ _ _ _ e (sym at-kind ∙ w.if-e-eq0.true)
+      | then-e-eq0-via-else-e-eq0+then-e-rows w ↦
+          sym (common-kind b β _ _ _ _ _ _ e (λ z. w.if-e-eq0.false (at-kind ∙ z)) ∙ rw (ne_eqb _ _ (rw symbol at w.if-e-rows.true)))
     ])
 
 pub shared_ref_as_front-arguments_ok : goal.shared_ref_as_front-arguments_ok

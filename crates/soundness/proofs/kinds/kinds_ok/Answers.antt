@@ -1,7 +1,6 @@
 -- `kinds::kinds_ok`: what `all` answers. Assumes nothing.
-use Rattle.std.proofs.Common.{◌≡◌, ◌∙◌, sym, rules, tests}
+use Rattle.std.proofs.Common.{◌∙◌, sym, rules}
 use Rattle.model.specs.Table.{hole_at, entry}
-use Rattle.model.specs.Lists.{all, from}
 use Rattle.layout.specs.limits.Rows.{table_of}
 use Rattle.layout.proofs.limits.Rows.{length-table_of}
 use Rattle.soundness.specs.kinds.KindTests.{kind_right}

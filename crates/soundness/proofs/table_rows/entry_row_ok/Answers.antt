@@ -1,6 +1,6 @@
 -- `table_rows::entry_row_ok`: each return follows the tests that lead there. Assumes nothing.
 use Rattle.std.proofs.Common.{◌≡◌, sym, ◌∙◌, arith}
-use Rattle.std.proofs.lemmas.Bool.{not-true, not-false, lt-leb}
+use Rattle.std.proofs.lemmas.Bool.{lt-leb}
 use mathlib.Core.Bool.{and-true, and-false}
 use Rattle.soundness.specs.rows.RowTests.{entry_row_ok}
 use Rattle.soundness.proofs.rows.Zeros.{zeros-below-one}

@@ -1,5 +1,5 @@
 -- `table_rows::lines_ok`. Assumes nothing.
-use Rattle.std.proofs.Common.{◌≡◌, rules, sym}
+use Rattle.std.proofs.Common.{rules}
 use Rattle.soundness.specs.rows.RowTests.{lines_ok}
 use Rattle.soundness.proofs.table_rows.lines_ok.Goals as goal
 

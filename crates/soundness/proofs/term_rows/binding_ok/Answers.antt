@@ -1,5 +1,5 @@
 -- `term_rows::binding_ok`: each return follows the tests that lead there. Assumes nothing.
-use Rattle.std.proofs.Common.{◌≡◌, sym, ◌∙◌, eq-eqb, ne_eqb}
+use Rattle.std.proofs.Common.{eq-eqb, ne_eqb}
 use Rattle.soundness.proofs.term_rows.Bindings.{unbound, bound_application, bound-variable}
 use Rattle.soundness.proofs.term_rows.binding_ok.Goals as goal
 

@@ -1,5 +1,5 @@
 -- `term_rows::term_row_ok`: each return follows the tests that lead there. Assumes nothing.
-use Rattle.std.proofs.Common.{◌≡◌, ◌&&◌, ◌+◌, ◌*◌, ltb, eqb, sym, ◌∙◌, inl, inr, arith}
+use Rattle.std.proofs.Common.{◌≡◌, ◌&&◌, ◌+◌, ◌*◌, eqb, sym, ◌∙◌, inl, inr, arith}
 use Rattle.model.specs.Lists.{all}
 use Rattle.model.specs.Area.{term_words}
 use Rattle.layout.specs.limits.Rows.{at}

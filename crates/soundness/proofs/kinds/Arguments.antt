@@ -1,10 +1,5 @@
 -- The argument entries of a common entry, one by one. Assumes nothing.
-use mathlib.Core.Path.{◌≡◌}
-use mathlib.Core.List.{List}
-use mathlib.Core.Bool.{Bool, true, false}
-use Prim.Native.Nat.{ℕ}
-use lib.ListN.{length, get_or}
-use lib.Dec.{T, ltb, lt→ltb}
+use Rattle.std.proofs.Common.{◌≡◌, List, Bool, true, false, ℕ, length, get_or, T, ltb, lt→ltb}
 use Rattle.model.specs.Lists.{all, from}
 use Rattle.model.specs.Term.{Book, Bindings}
 use Rattle.model.specs.Table.{Table, entry, holds}

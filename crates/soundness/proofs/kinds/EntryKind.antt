@@ -1,11 +1,5 @@
 -- The kind of an entry, by the words of its row and of the rows of two terms. Assumes nothing.
-use mathlib.Core.Path.{◌≡◌}
-use mathlib.Core.List.{List}
-use mathlib.Core.Bool.{Bool, true, false, cond, ◌&&◌}
-use Prim.Native.Nat.{ℕ, ◌+◌, ◌*◌, ◌-◌, ◌<◌}
-use borrow.Author.Tests.{ne_eqb}
-use lib.ListN.{length, take, drop}
-use lib.Dec.{eqb}
+use Rattle.std.proofs.Common.{◌≡◌, List, Bool, true, false, cond, ◌&&◌, ℕ, ◌+◌, ◌*◌, ◌-◌, ◌<◌, ne_eqb, length, take, drop, eqb}
 use Rattle.model.specs.Term.{Node, symbol, arguments, alike, Book, Bindings}
 use Rattle.model.specs.Table.{hole, common, Table}
 use Rattle.model.specs.Area.{term_words, arguments_ok, kind_ok}

@@ -1,12 +1,6 @@
 -- A test of each element, or of each number below n, that stops at the first that does not pass. Assumes nothing.
-use mathlib.Core.Path.{◌≡◌, refl, ap, sym, subst, ◌∙◌}
-use mathlib.Core.List.{List, [], ◌∷◌}
-use mathlib.Core.Bool.{Bool, true, false, ◌&&◌}
-use Prim.Native.Nat.{ℕ, ◌<◌, ◌≤◌}
-use native.Mathlib.Omega.{arith}
+use Rattle.std.proofs.Common.{◌≡◌, refl, ap, sym, subst, ◌∙◌, List, [], ◌∷◌, Bool, true, false, ◌&&◌, ℕ, ◌<◌, ◌≤◌, arith, length, get_or, T}
 use denote.Param.Members.{Mut, Called}
-use lib.ListN.{length, get_or}
-use lib.Dec.{T}
 use Rattle.std.specs.Bool.{IsTrue, MatchBool}
 use Rattle.std.specs.Iterator.Runs.{SomeRun, AllItemsGive, AnyItemGives}
 use Rattle.std.specs.List.{list_all}
@@ -41,14 +35,6 @@ module _ {A : Type 0} (p : A → Bool) (xs : List A) (d : A) where
   pub one_failed : (i : ℕ) → i < length xs → p (get_or xs i d) ≡ false → all p xs ≡ false
   one_failed i l e = not-T_false (all p xs) (λ h. not_both _ e (all-at p xs d h i l))
 
--- the numbers below n: all passed, or i did not
-module _ (p : ℕ → Bool) (n : ℕ) where
-  pub all_passed : (i : ℕ) → n ≤ i → Passed p i → all p (from 0 n) ≡ true
-  all_passed i l h = T_true (all p (from 0 n)) (below_all p n (λ j k. true_T _ (h j (omega arith))))
-
-  pub all_broken : (i : ℕ) → i < n → p i ≡ false → all p (from 0 n) ≡ false
-  all_broken i l e = not-T_false (all p (from 0 n)) (λ h. not_both _ e (all-below p n h i l))
-
 -- the elements of a list, by their places
 pub all-places : {A : Type 0} (p : A → Bool) (xs : List A) (d : A) → all p xs ≡ all (λ i. p (get_or xs i d)) (from 0 (length xs))
 all-places p xs d =
@@ -77,13 +63,13 @@ all-range p n {f} true ran e called =
     let end : k.from.end ≡ n = ap (λ (t : Range ℕ). t.end) (ran.1 ∙ e) in
     let long : k.len ≡ n = omega (arith, up.1 ran.2.0) in
     let gives = ran.2.1 (λ a b q h. (called a.0 b q h).0) in
-    sym (all_passed p n n (omega arith) (λ j l.
+    sym (T_true _ (below_all p n (λ j l.
     let there : option_map (λ y. y) (k.at j) ≡ Some j = up.3 j (omega arith) ∙ ap Some (omega arith) in
-    sym ((called j true f (item-at (k.at j) j _ there (gives j))).1 l)))
+    true_T _ (sym ((called j true f (item-at (k.at j) j _ there (gives j))).1 l)))))
 all-range p n {f} false ran e called =
     let k = ran.0 in
     let up = range_runs k k.seen in
     let end : k.from.end ≡ n = ap (λ (t : Range ℕ). t.end) (ran.1 ∙ e) in
     let gives = ran.2 (λ a b q h. (called a.0 b q h).0) in
     item-known (k.at gives.0) _ _ gives.2 (up.2 gives.0) (λ x h k.
-    sym (all_broken p n x (omega (arith, k.1)) (sym ((called x false f h).1 (omega (arith, k.1))))))
+    sym (not-T_false _ (λ t. not_both _ (sym ((called x false f h).1 (omega (arith, k.1)))) (all-below p n t x (omega (arith, k.1))))))

@@ -1,15 +1,8 @@
 -- Words that are 0: as a limit, and as the places behind numbers that are padded with zeros. Assumes nothing.
-use mathlib.Core.Path.{◌≡◌, refl, ap, ap₂}
-use mathlib.Core.List.{List, [], ◌∷◌}
-use mathlib.Core.Bool.{Bool, true, false, ◌&&◌, and-true, and-false}
-use Prim.Native.Nat.{ℕ, zero, suc, ◌+◌, ◌-◌, ◌<◌, ◌≤◌}
-use native.Mathlib.Nat.{suc-sub-suc, sub-zero}
-use native.Mathlib.Numerals.{add-one}
-use native.Mathlib.Omega.{arith}
-use borrow.Author.Tests.{le-ltb, eq-eqb}
-use lib.ListN.{length, get_or, take, drop, replicate, length-drop, drop_of_length-le}
-use lib.Dec.{eqb, ltb, leb, leb-zero, eqb-zero-suc}
-use lib.Seq.{take-take, drop-cons}
+use Rattle.std.proofs.Common.{◌≡◌, refl, ap, ap₂, List, [], ◌∷◌, Bool, true, false, ◌&&◌, ℕ, zero, suc, ◌+◌, ◌-◌, ◌<◌, ◌≤◌, add-one, arith, le-ltb, eq-eqb, length, get_or, take, drop, replicate, length-drop, drop_of_length-le, eqb, ltb, leb, take-take, drop-cons}
+use Rattle.std.proofs.Math.Bool.{and-true, and-false}
+use Rattle.std.proofs.Math.Nat.{suc-sub-suc, sub-zero}
+use lib.Dec.{leb-zero, eqb-zero-suc}
 use Rattle.std.proofs.lemmas.List.{take_all}
 use Rattle.model.specs.Lists.{all, is_empty, eq_numbers, padded}
 use Rattle.theory.proofs.Lists.Laws.{eqb-sym, all_alike}

@@ -1,7 +1,7 @@
 -- `table_rows::entry_row_ok`: each return follows the tests that lead there. Assumes nothing.
 use Rattle.std.proofs.Common.{◌≡◌, sym, ◌∙◌, arith}
 use Rattle.std.proofs.lemmas.Bool.{lt-leb}
-use mathlib.Core.Bool.{and-true, and-false}
+use Rattle.std.proofs.Math.Bool.{and-true, and-false}
 use Rattle.soundness.specs.rows.RowTests.{entry_row_ok}
 use Rattle.soundness.proofs.rows.Zeros.{zeros-below-one}
 use Rattle.soundness.proofs.table_rows.EntryRow.{entry_form, sides, high_count, hole-row, high_kind, common-row}

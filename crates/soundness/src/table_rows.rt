@@ -8,6 +8,7 @@ use crate::rows::{all_below, zero_from};
 use layout::limits::{ENTRY_WORDS, MAX_ARITY};
 
 // Whether the first `k` words are below `m`, and the others 0.
+#[tactic(auto, unfolding(crate::specs::rows::RowTests::lines_ok))]
 pub fn lines_ok(lines: &[u32], k: usize, m: usize) -> bool
     requires { k ≤ length lines.now }
     ensures { result ≡ lines_ok lines.now k m }

@@ -1,11 +1,8 @@
 -- A test of each element, or of each number below n, that stops at the first that does not pass. Assumes nothing.
-use Rattle.std.proofs.Common.{◌≡◌, refl, ap, sym, subst, ◌∙◌, List, [], ◌∷◌, Bool, true, false, ◌&&◌, ℕ, ◌<◌, ◌≤◌, arith, length, get_or, T}
+use Rattle.std.proofs.Common.{◌≡◌, refl, ap, sym, subst, ◌∙◌, List, [], ◌∷◌, Bool, true, false, ◌&&◌, ℕ, ◌<◌, ◌≤◌, arith, length, get_or, T, Option, Some, None, option_map, IfSome, IsSomeAnd, IsTrue, MatchBool}
 use denote.Param.Members.{Mut, Called}
-use Rattle.std.specs.Bool.{IsTrue, MatchBool}
 use Rattle.std.specs.Iterator.Runs.{SomeRun, AllItemsGive, AnyItemGives}
 use Rattle.std.specs.List.{list_all}
-use Rattle.std.specs.Option.{option_map, IfSome, IsSomeAnd}
-use Rattle.std.specs.Prelude.{Option, Some, None}
 use Rattle.std.specs.declared.ops.Range.{Range}
 use Rattle.std.proofs.iter.Yields.{nat_range_steps}
 use Rattle.std.proofs.iter.runs.Sources.{range_runs}

@@ -1,9 +1,8 @@
 -- Words that are 0: as a limit, and as the places behind numbers that are padded with zeros. Assumes nothing.
-use Rattle.std.proofs.Common.{◌≡◌, refl, ap, ap₂, List, [], ◌∷◌, Bool, true, false, ◌&&◌, ℕ, zero, suc, ◌+◌, ◌-◌, ◌<◌, ◌≤◌, add-one, arith, le-ltb, eq-eqb, length, get_or, take, drop, replicate, length-drop, drop_of_length-le, eqb, ltb, leb, take-take, drop-cons}
+use Rattle.std.proofs.Common.{◌≡◌, refl, ap, ap₂, List, [], ◌∷◌, Bool, true, false, ◌&&◌, ℕ, zero, suc, ◌+◌, ◌-◌, ◌<◌, ◌≤◌, add-one, arith, le-ltb, eq-eqb, length, get_or, take, drop, replicate, length-drop, drop_of_length-le, eqb, ltb, leb, take-take, take_all, drop-cons}
 use Rattle.std.proofs.Math.Bool.{and-true, and-false}
 use Rattle.std.proofs.Math.Nat.{suc-sub-suc, sub-zero}
-use lib.Dec.{leb-zero, eqb-zero-suc}
-use Rattle.std.proofs.lemmas.List.{take_all}
+use Rattle.std.proofs.Math.Dec.{leb-zero, eqb-zero-suc}
 use Rattle.model.specs.Lists.{all, is_empty, eq_numbers, padded}
 use Rattle.theory.proofs.Lists.Laws.{eqb-sym, all_alike}
 use Rattle.soundness.specs.rows.RowTests.{zero_from}

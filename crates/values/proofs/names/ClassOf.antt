@@ -247,44 +247,42 @@ module _ {rows bindings classes list : List ℕ} {n k place : ℕ} (a : Classabl
     λ e j q h. a.no_key e j q (sym (keys k (omega arith)) ∙ (h ∙ keys j (omega arith))),
   )
 
-  pub class-free : at rows (term_words * at list k) ≡ 0 → at bindings (at list k) ≡ 0 → at list k ≡ class_of rows bindings list n (at list k)
+  pub class-free : at rows (term_words * at list k) ≡ 0 → binding_of bindings (at list k) ≡ none → at list k ≡ class_of rows bindings list n (at list k)
   class-free p q =
       sym
       (class-free_by a.listed (at list k) t_lt (at list k)
-      (value-free a.listed (at list k) t_lt (node-var rows (at list k) p) (binding_none bindings (at list k) q)) _ _ refl refl)
+      (value-free a.listed (at list k) t_lt (node-var rows (at list k) p) q) _ _ refl refl)
 
-  pub class-bound : at rows (term_words * at list k) ≡ 0 → (at bindings (at list k) ≡ 0 → ⊥)
-      → at classes (at bindings (at list k) - 1) ≡ class_of rows bindings list n (at list k)
+  pub class-bound : at rows (term_words * at list k) ≡ 0 → (u : ℕ) → binding_of bindings (at list k) ≡ some u
+      → at classes u ≡ class_of rows bindings list n (at list k)
   unfolding parts_of
-  class-bound p q =
-      let o : binding_of bindings (at list k) ≡ some (at bindings (at list k) - 1) = binding_some bindings (at list k) q in
+  class-bound p u o =
       (rw (node-var rows (at list k) p, o) at
       (settled-parts a.listed (λ t w. w ≡ class_of rows bindings list n t) classes k a.settled a.within))
       0 (suc-le-suc zero-le)
-      ∙ sym (class_same a.listed (at list k) (at bindings (at list k) - 1) (value-bound a.listed (at list k) t_lt _ o))
+      ∙ sym (class_same a.listed (at list k) u (value-bound a.listed (at list k) t_lt _ o))
 
-  module _ (p : at rows (term_words * at list k) ≡ 0 → ⊥) {r : ℕ} (e : Earlier rows classes list k (at list k) r) where
-    pub class-new : r ≡ k → at list k ≡ class_of rows bindings list n (at list k)
-    class-new q =
+  module _ (p : at rows (term_words * at list k) ≡ 0 → ⊥) where
+    pub class-new : ((j : ℕ) → j < k → key_at rows classes (at list k) ≡ key_at rows classes (at list j) → ⊥)
+        → at list k ≡ class_of rows bindings list n (at list k)
+    class-new h =
         sym
         (new_by a.listed k a.within _ _ (node-arguments rows (at list k) p)
-        (λ j m h. e.none q j m (keys k (omega arith) ∙ (h ∙ sym (keys j (omega arith))))) (lt-or-le _ k))
+        (λ j m e. h j m (keys k (omega arith) ∙ (e ∙ sym (keys j (omega arith))))) (lt-or-le _ k))
 
-    pub old-place : (r ≡ k → ⊥) → (r < k) × (r < length list) × (at list r < length classes)
-    old-place q =
-        let low : r < k = omega (arith, e.within) in (
-          low,
-          omega (arith, list-fits a.listed, a.within),
-          omega (arith, term-lt a.listed r (omega (arith, a.within)), a.classes_fit),
-        )
+    module _ {r : ℕ} (e : (r < k) × (key_at rows classes (at list k) ≡ key_at rows classes (at list r))) where
+      pub old-place : (r < length list) × (at list r < length classes)
+      old-place = (
+        omega (arith, list-fits a.listed, a.within, e.0),
+        omega (arith, term-lt a.listed r (omega (arith, a.within, e.0)), a.classes_fit),
+      )
 
-    pub class-old : (r ≡ k → ⊥) → at classes (at list r) ≡ class_of rows bindings list n (at list k)
-    class-old q =
-        let low : r < k = omega (arith, e.within) in
-        let same : key_in rows bindings list n (at list k) ≡ key_in rows bindings list n (at list r) =
-        sym (keys k (omega arith)) ∙ (e.same low ∙ keys r (omega arith)) in
-        a.settled r low
-        ∙ sym
-        (class_same a.listed (at list k) (at list r)
-        (key_value a.listed (at list k) (at list r) t_lt (term-lt a.listed r (omega (arith, a.within))) _ _
-        (node-arguments rows (at list k) p) (node_of rows (at list r)) refl (rw (node-arguments rows (at list k) p) at same)))
+      pub class-old : at classes (at list r) ≡ class_of rows bindings list n (at list k)
+      class-old =
+          let same : key_in rows bindings list n (at list k) ≡ key_in rows bindings list n (at list r) =
+          sym (keys k (omega arith)) ∙ (e.1 ∙ keys r (omega (arith, e.0))) in
+          a.settled r e.0
+          ∙ sym
+          (class_same a.listed (at list k) (at list r)
+          (key_value a.listed (at list k) (at list r) t_lt (term-lt a.listed r (omega (arith, a.within, e.0))) _ _
+          (node-arguments rows (at list k) p) (node_of rows (at list r)) refl (rw (node-arguments rows (at list k) p) at same)))

@@ -78,9 +78,9 @@ module _ {b : Book} {β : Bindings} {n : ℕ} (good : Good b β n) where
         under u k = omega arith
 
     -- a refusal
-    pub upto_refused : {xs : List ℕ} → t < n → Stuck b β marks (t ∷ []) → (false ≡ acyclic b β) × (false ≡ true → Ordered b β xs)
+    pub upto_refused : t < n → Stuck b β marks (t ∷ []) → false ≡ acyclic b β
     unfolding all
-    upto_refused l h = (sym (not-T_false (acyclic b β) stuck), λ e. let z : ◌≡◌ {A = ℕ} 0 1 = cc in absurd (omega arith))
+    upto_refused l h = sym (not-T_false (acyclic b β) stuck)
       where
         stuck : T (acyclic b β) → ⊥
         stuck e =

@@ -18,7 +18,7 @@ use Rattle.theory.proofs.Lists.Laws.{and_left, and_both, true_T}
 use Rattle.theory.proofs.Soundness.Facts.{Formed}
 use Rattle.theory.proofs.Values.Ends.{argument-lt}
 use Rattle.layout.specs.limits.Rows.{at, node_of, book_of, binding_of, bound_of, GoodTerms}
-use Rattle.layout.proofs.limits.Rows.{length-book_of, get_or-book_of, get_or-bound_of, node-var, node-app, binding_none, binding_some, length-arguments, get_or-arguments, good_formed}
+use Rattle.layout.proofs.limits.Rows.{length-book_of, get_or-book_of, get_or-bound_of, node-var, node-app, binding_none, binding_some, good_formed}
 use Rattle.values.specs.order.Order.{parts_of, parts}
 use Rattle.values.specs.order.Marking.{parts_in}
 
@@ -36,42 +36,31 @@ module _ {rows bindings : List ℕ} {n : ℕ} (good : GoodTerms rows bindings n)
   in_rows = rw (get_or-book_of rows n t l, get_or-bound_of bindings n t l)
 
   -- an application's are its arguments, a bound variable's is what it is bound to, a free one has none
-  parts-app : (at rows (term_words * t) ≡ 0 → ⊥) → parts_in rows bindings n t ≡ arguments (node_of rows t)
+  pub parts-app : (at rows (term_words * t) ≡ 0 → ⊥) → parts_in rows bindings n t ≡ arguments (node_of rows t)
   unfolding parts_of arguments
   parts-app h = in_rows ∙ rw (node-app rows t h)
 
-  pub parts_free : at rows (term_words * t) ≡ 0 → at bindings t ≡ 0 → parts_in rows bindings n t ≡ []
+  pub parts_free : at rows (term_words * t) ≡ 0 → binding_of bindings t ≡ none → parts_in rows bindings n t ≡ []
   unfolding parts_of
-  parts_free e f = in_rows ∙ rw (node-var rows t e, binding_none bindings t f)
+  parts_free e f = in_rows ∙ rw (node-var rows t e, f)
 
-  pub parts-bound : at rows (term_words * t) ≡ 0 → (at bindings t ≡ 0 → ⊥)
-      → parts_in rows bindings n t ≡ (at bindings t - 1) ∷ []
+  pub parts-bound : at rows (term_words * t) ≡ 0 → (u : ℕ) → binding_of bindings t ≡ some u → parts_in rows bindings n t ≡ u ∷ []
   unfolding parts_of
-  parts-bound e f = in_rows ∙ rw (node-var rows t e, binding_some bindings t f)
+  parts-bound e u f = in_rows ∙ rw (node-var rows t e, f)
 
-  -- their count and the i-th
-  module _ (h : at rows (term_words * t) ≡ 0 → ⊥) where
-    pub count-app : at rows (term_words * t + 1) ≡ length (parts_in rows bindings n t)
-    count-app = rw (parts-app h) (sym (length-arguments good t l h))
-
-    pub argument-few : (i : ℕ) → i < length (parts_in rows bindings n t) → i < max_arity
-    argument-few i k = omega (arith, count-app, good.few-arguments t l)
-
-    pub part_app : (i : ℕ) → i < length (parts_in rows bindings n t)
-        → at rows (term_words * t + 2 + i) ≡ get_or (parts_in rows bindings n t) i 0
-    part_app i k = rw (parts-app h) (sym (get_or-arguments good t l h i (omega (arith, count-app))))
-
+  -- a variable that has a part is bound to it
   module _ (e : at rows (term_words * t) ≡ 0) (i : ℕ) (k : i < length (parts_in rows bindings n t)) where
     pub bound-word : 1 ≤ at bindings t
     bound-word = go (ℕ_discrete (at bindings t) 0)
       where
         go : Dec (at bindings t ≡ 0) → 1 ≤ at bindings t
-        go (yes f) = absurd (not-suc-le-zero (rw (parts_free e f) at k))
+        go (yes f) = absurd (not-suc-le-zero (rw (parts_free e (binding_none bindings t f)) at k))
         go (no f) = omega arith
 
     pub part_bound : at bindings t - 1 ≡ get_or (parts_in rows bindings n t) i 0
     part_bound =
-        let p : parts_in rows bindings n t ≡ (at bindings t - 1) ∷ [] = parts-bound e (λ f. omega (arith, bound-word)) in
+        let p : parts_in rows bindings n t ≡ (at bindings t - 1) ∷ [] =
+        parts-bound e (at bindings t - 1) (binding_some bindings t (λ f. omega (arith, bound-word))) in
         rw p (only (at bindings t - 1) i (rw p at k))
 
 -- ---- parts of a book

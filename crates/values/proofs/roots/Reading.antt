@@ -38,24 +38,19 @@ readable rows bindings n t m good l h =
     formed : Formed (book_of rows n) (bound_of bindings n)
     formed = good_formed good
 
--- the words behind the count of an application, as many as it says: a part of the rows, from a start to an end
-abbrev pub arguments_at : List ℕ → ℕ → List ℕ
-arguments_at rows t =
-    take (term_words * t + 2 + at rows (term_words * t + 1) - (term_words * t + 2)) (drop (term_words * t + 2) rows)
-
--- are its arguments
+-- an application, by its arguments
 pub node-arguments : (rows : List ℕ) (t : ℕ) → (at rows (term_words * t) ≡ 0 → ⊥)
-    → node_of rows t ≡ app (at rows (term_words * t) - 1) (arguments_at rows t)
-node-arguments rows t h =
-    let e : term_words * t + 2 + at rows (term_words * t + 1) - (term_words * t + 2) ≡ at rows (term_words * t + 1) = omega arith in
-    rw e (node-app rows t h)
+    → node_of rows t ≡ app (at rows (term_words * t) - 1) (arguments (node_of rows t))
+unfolding arguments
+node-arguments rows t h = rw (node-app rows t h)
 
 module _ (rows bindings : List ℕ) (t m : ℕ) (r : Readable rows bindings t m) where
   -- the term that a variable is bound to, and the arguments of an application, are below m
-  pub bound-below : at rows (term_words * t) ≡ 0 → (at bindings t ≡ 0 → ⊥) → at bindings t - 1 < m
+  pub bound-below : at rows (term_words * t) ≡ 0 → (u : ℕ) → binding_of bindings t ≡ some u → u < m
   unfolding parts_of
-  bound-below p q = (rw (node-var rows t p, binding_some bindings t q) at r.parts_below) 0 (suc-le-suc zero-le)
+  bound-below p u q = (rw (node-var rows t p, q) at r.parts_below) 0 (suc-le-suc zero-le)
 
-  pub arguments-below : (at rows (term_words * t) ≡ 0 → ⊥) → (j : ℕ) → j < length (arguments_at rows t) → at (arguments_at rows t) j < m
+  pub arguments-below : (at rows (term_words * t) ≡ 0 → ⊥) → (args : List ℕ) → args ≡ arguments (node_of rows t)
+      → (j : ℕ) → j < length args → at args j < m
   unfolding parts_of
-  arguments-below h = rw (node-arguments rows t h) at r.parts_below
+  arguments-below h args e = rw e (rw (node-arguments rows t h) at r.parts_below)

@@ -53,8 +53,12 @@ module _ {rows bindings list : List ℕ} {n : ℕ} (listed : Listed rows binding
   pub list-fits : n ≤ length list
   list-fits = omega (arith, listed.ordered.as_many, length-book_of rows n, length-take n list)
 
-  length-list : length (take n list) ≡ n
+  pub length-list : length (take n list) ≡ n
   length-list = length-take-le n list list-fits
+
+  -- the turn k of a loop along those terms
+  pub turn : (k : ℕ) → k < length (take n list) → (k < n) × (at (take n list) k ≡ at list k)
+  turn k l = let m : k < n = omega (arith, length-list) in (m, get_or-take n list k 0 m)
 
   pub term-lt : (k : ℕ) → k < n → at list k < n
   term-lt k l =

@@ -21,21 +21,6 @@ use Rattle.layout.proofs.limits.Rows.{node-var}
 use Rattle.values.proofs.roots.Reading.{node-arguments}
 use Rattle.values.specs.names.Keys.{key_of, key_at, mixed, hash_from, Row, Earlier}
 
--- the sum of a mix fits a word of eight bytes
-sum_fits : (product high c : ℕ) → product ≤ 4294967295 * 3728177666 → high < 4294967296 → c < 4294967296
-    → (product < 18446744073709551616) × (product + high < 18446744073709551616) × (product + high + c < 18446744073709551616)
-sum_fits product high c l k m = (omega arith, omega arith, omega arith)
-
-pub halves : (h : ℕ) → h < 18446744073709551616 → (h % 4294967296 < 4294967296) × (h / 4294967296 < 4294967296)
-halves h l = (mod-lt h (omega arith), (div-lt_iff_lt-mul {k = 4294967296} {x = h} {y = 4294967296} (omega arith)).1 l)
-
-pub mix_fits : (h c : ℕ) → h < 18446744073709551616 → c < 4294967296 → let product = h % 4294967296 * (2654435843 + c % 1073741824) in
-    (product < 18446744073709551616) × (product + h / 4294967296 < 18446744073709551616) × (product + h / 4294967296 + c < 18446744073709551616)
-mix_fits h c l k =
-    let factor : 2654435843 + c % 1073741824 ≤ 3728177666 = omega (arith, mod-lt c {m = 1073741824} (omega arith)) in
-    let low : h % 4294967296 ≤ 4294967295 = omega (arith, (halves h l).0) in
-    sum_fits (h % 4294967296 * (2654435843 + c % 1073741824)) (h / 4294967296) c (mul-le-mul low factor) (halves h l).1 k
-
 mixed-none : (c : ℕ) → mixed 0 c ≡ c
 unfolding mixed
 mixed-none c = omega arith

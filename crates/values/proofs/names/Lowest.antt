@@ -101,18 +101,6 @@ unfolding lowest_same
 lowest-same classes n t u e = rw e
 
 module _ {classes : List ℕ} {n : ℕ} {firsts₀ names₀ : List ℕ} where
-  pub numbering_none : Nameable classes names₀ firsts₀ n → Numbering classes n firsts₀ names₀ firsts₀ names₀ 0
-  numbering_none counted =
-      record {
-        counted = counted;
-        within = omega arith;
-        first_size = refl;
-        name_size = refl;
-        behind = refl;
-        placed = λ i l. absurd (not-suc-le-zero l);
-        named = λ i l. absurd (not-suc-le-zero l);
-      }
-
   module _ {firsts names : List ℕ} {t : ℕ} (h : Numbering classes n firsts₀ names₀ firsts names t) where
     -- at the end every term has the lowest of its class
     pub numbered : n ≤ t → names ≡ map (lowest_same classes n) (from 0 n) ++ drop n names₀

@@ -96,10 +96,6 @@ pub record Part (rows bindings : List ℕ) (n t : ℕ) (before marks list : List
   pub is : u ≡ get_or (parts_in rows bindings n t) i 0
 
 module _ {rows bindings : List ℕ} {n t : ℕ} where
-  pub between_none : {marks list : List ℕ} {done : ℕ} → Walkable rows bindings n t marks list done
-      → Between rows bindings n t marks marks list done 0
-  between_none r = record { ready = r; no_more-left = omega arith; whole = λ marks' list' done' h. h; stuck = λ h. h }
-
   module _ {before marks list : List ℕ} {done i : ℕ} where
     pub outcome-parts : Between rows bindings n t before marks list done i → length (parts_in rows bindings n t) ≤ i
         → Finished (book_of rows n) (bound_of bindings n) before (parts_in rows bindings n t) marks list done

@@ -86,7 +86,7 @@ parts-step p var none e = tt
 parts-step p var (some u) e = and_left (p u) true e
 parts-step p (app s args) o e = e
 
--- what holds of the arguments and of what is bound holds of the parts, and they are few
+-- what holds of the arguments and of what is bound holds of the parts
 parts_below : (n : ℕ) (x : Node) (o : Option ℕ) → ((i : ℕ) → i < length (arguments x) → get_or (arguments x) i 0 < n)
     → ((u : ℕ) → o ≡ some u → u < n) → (i : ℕ) → i < length (parts_of x o) → get_or (parts_of x o) i 0 < n
 unfolding parts_of arguments
@@ -94,12 +94,6 @@ parts_below n var none h g i l = absurd (not-suc-le-zero l)
 parts_below n var (some u) h g zero l = g u refl
 parts_below n var (some u) h g (suc i) l = absurd (not-suc-le-zero (le_of_suc-le-suc l))
 parts_below n (app s args) o h g i l = h i l
-
-parts-few : (x : Node) (o : Option ℕ) → length (arguments x) ≤ max_arity → length (parts_of x o) ≤ max_arity
-unfolding parts_of arguments
-parts-few var none h = omega arith
-parts-few var (some u) h = omega arith
-parts-few (app s args) o h = h
 
 module _ (b : Book) (β : Bindings) where
   pub ends-parts : (k t : ℕ) → T (ends b β (suc k) t) → T (all (ends b β k) (parts b β t))
@@ -133,7 +127,3 @@ module _ (b : Book) (β : Bindings) where
     unfolding parts
     part_lt t l =
         parts_below (length b) (get_or b t var) (get_or β t none) (argument-lt b β formed t l) (λ u q. (formed.bound-var t u q).1)
-
-    pub few-parts : (t : ℕ) → t < length b → length (parts b β t) ≤ max_arity
-    unfolding parts
-    few-parts t l = parts-few (get_or b t var) (get_or β t none) (formed.small_arity t l)

@@ -5,9 +5,6 @@ use Rattle.values.specs.names.Keys.{hash_from}
 use Rattle.values.proofs.names.Keys.{hash_more, hash_none}
 use Rattle.values.proofs.names.application_hash.Goals as goal
 
-pub loop-a-init : goal.loop-a-init
-loop-a-init c = ap (λ (h : ℕ). hash_from h (map (at c.args.classes.now) c.args.args.now)) c.from-h.ensures
-
 pub loop-a-preserved : goal.loop-a-preserved
 loop-a-preserved c =
     let classes = c.args.classes.now in

@@ -14,9 +14,6 @@ pub key_hash-h-requires : goal.key_hash-h-requires
 key_hash-h-requires c =
     let t = turn c.requires.listed c.loop-k.k c.loop-k-test.true in rw t.1 (next_row c.loop-k.invariant t.0)
 
-pub push-place-requires-clause-indexed : goal.push-place-requires-clause-indexed
-push-place-requires-clause-indexed c = c.loop-k.invariant.indexed
-
 pub class_of-requires : goal.class_of-requires
 class_of-requires c =
     let t = turn c.requires.listed c.loop-k.k c.loop-k-test.true in

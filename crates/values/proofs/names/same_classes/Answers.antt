@@ -7,12 +7,6 @@ use Rattle.values.proofs.names.same_classes.Goals as goal
 pub returns-then-args-others : goal.returns-then-args-others
 returns-then-args-others c = sym (numbers_lengths (at c.args.classes.now) c.args.args.now c.args.others.now c.if-args-others.true)
 
-pub loop-a-init : goal.loop-a-init
-loop-a-init c =
-    let a : c.into_iter-a-iterator.result.a.rest.now ≡ c.args.args.now = cc in
-    let o : c.into_iter-a-iterator.result.b.rest.now ≡ c.args.others.now = cc in
-    rw (a, o) (record { same = refl; as_many = c.if-args-others.false })
-
 pub returns-then-classes-a : goal.returns-then-classes-a
 returns-then-classes-a c =
     let step = c.in-Some.ensures.steps in

@@ -1,7 +1,7 @@
 -- A walk of parts goes from part to part; a walk of a term marks it before and behind the walk of its parts (Outcomes).
 use Rattle.std.proofs.Common.{◌≡◌, List, ℕ, ◌<◌, length, get_or, refl, arith}
 use Rattle.values.specs.order.Marking.{parts_in, Walkable}
-use Rattle.values.proofs.order.Outcomes.{term-room, outcome-finished, outcome_met, New, start-ready, fewer_left, outcome_stuck, next_place, outcome-term, Between, Part, between_none, outcome-parts, part_ready, outcome_part, between_more}
+use Rattle.values.proofs.order.Outcomes.{term-room, outcome-finished, outcome_met, New, start-ready, fewer_left, outcome_stuck, next_place, outcome-term, Between, Part, outcome-parts, part_ready, outcome_part, between_more}
 use Rattle.values.proofs.order.+walk_arguments_walk_term.Goals as goal
 use Rattle.values.proofs.order.+walk_arguments_walk_term.Goals.{walk_arguments-then-marks-u-ne-FINISHED+in_ok-place, walk_arguments-else-marks-u-ne-FINISHED}
 
@@ -10,9 +10,6 @@ part_at : {rows bindings : List ℕ} {n t : ℕ} {before marks list : List ℕ} 
     → Between rows bindings n t before marks list done i → count ≡ length (parts_in rows bindings n t) → i < count
     → u ≡ get_or (parts_in rows bindings n t) i 0 → Part rows bindings n t before marks list done i u
 part_at b e l is = record { between = b; inside = omega arith; is = is }
-
-pub walk_arguments-loop-i-init : goal.walk_arguments-loop-i-init
-walk_arguments-loop-i-init t c = between_none c.requires
 
 pub walk_arguments-bounds-marks-u : goal.walk_arguments-bounds-marks-u
 walk_arguments-bounds-marks-u t c =

@@ -8,9 +8,6 @@ loop-t-init c =
     rw c.clear.ensures
     (upto_none (good_book c.requires.good_terms) c.args.marks.now c.args.list.now c.requires.n_in_bounds c.requires.n_in_bounds_2)
 
-pub walk_term-requires : goal.walk_term-requires
-walk_term-requires c = record { good = c.requires.good_terms; term = c.loop-t-test.true; marking = c.loop-t.invariant.marking }
-
 pub returns-in-None-clause-value : goal.returns-in-None-clause-value
 returns-in-None-clause-value c =
     upto_refused (good_book c.requires.good_terms) c.loop-t.invariant c.loop-t-test.true c.in-None.ensures

@@ -10,9 +10,6 @@ use Rattle.values.proofs.roots.occurs_in.Goals as goal
 pub slice_bounds-u-items-end : goal.slice_bounds-u-items-end
 slice_bounds-u-items-end c = sym (length-list c.requires.listed.0)
 
-pub loop-u-init : goal.loop-u-init
-loop-u-init c = filled_none c.requires.listed.0 c.requires.listed.1
-
 pub occurs_step-stands-requires : goal.occurs_step-stands-requires
 occurs_step-stands-requires c =
     let t = turn c.requires.listed.0 c.loop-u.u-index c.loop-u-test.true in rw t.1 (next_readable c.loop-u.invariant t.0)

@@ -7,9 +7,6 @@ use Rattle.values.proofs.roots.roots.Goals as goal
 pub slice_bounds-t-items-end : goal.slice_bounds-t-items-end
 slice_bounds-t-items-end c = sym (length-list c.requires.0)
 
-pub loop-t-init : goal.loop-t-init
-loop-t-init c = filled_none c.requires.0 c.requires.1
-
 pub root_of-requires : goal.root_of-requires
 root_of-requires c =
     let t = turn c.requires.0 c.loop-t.t-index c.loop-t-test.true in rw t.1 (next_readable c.loop-t.invariant t.0)

@@ -1,13 +1,7 @@
 -- The class of a term, the first along the list with its value: it is found from the classes of what the value is made of, and
 -- for an application from the keys of the terms before it. Assumes nothing.
-use mathlib.Core.Path.{◌≡◌, refl, ap, ap₂, sym, ◌∙◌}
-use mathlib.Core.List.{List, [], ◌∷◌, map}
-use mathlib.Core.Option.{Option, none, some}
-use mathlib.Core.Logic.{◌⊎◌, inl, inr}
-use Prim.Native.Nat.{ℕ, suc, ◌*◌, ◌-◌, ◌≤◌, ◌<◌, zero-le, suc-le-suc}
-use native.Mathlib.Omega.{arith}
-use lib.ListN.{length, get_or, take}
-use lib.Seq.{get_or-take, length-take-le}
+use Rattle.std.proofs.Common.{◌≡◌, refl, ap, ap₂, sym, ◌∙◌, List, [], ◌∷◌, map, ◌⊎◌, inl, inr, ℕ, suc, ◌*◌, ◌-◌, ◌≤◌, ◌<◌, zero-le, suc-le-suc, arith, length, get_or, take, get_or-take, length-take-le}
+use Rattle.std.proofs.Math.Option.{Option, none, some}
 use Rattle.model.specs.Lists.{first}
 use Rattle.model.specs.Term.{Node, var, app, arguments, Tree, free, node, Trees, more, trees, eq_tree, val}
 use Rattle.model.specs.Area.{term_words}

@@ -1,16 +1,6 @@
 -- Keys of terms, from the words of a row: their hash, and whether two are the same. Assumes nothing.
-use mathlib.Core.Path.{◌≡◌, refl, ap, sym, ◌∙◌}
-use mathlib.Core.List.{List, [], ◌∷◌, map}
-use mathlib.Core.Bool.{Bool, true, false}
-use mathlib.Core.Logic.{◌⊎◌, inl, inr}
-use Prim.Native.Nat.{ℕ, suc, ◌+◌, ◌*◌, ◌-◌, ◌/◌, ◌%◌, ◌≤◌, ◌<◌}
-use native.Mathlib.Nat.{mod-lt, div-lt_iff_lt-mul, mul-le-mul}
-use native.Mathlib.Numerals.{add-one}
-use native.Mathlib.Omega.{arith}
-use borrow.Author.Tests.{eq-eqb, ne_eqb}
-use lib.ListN.{length, drop, drop_of_length-le, length-map}
-use lib.Seq.{drop-cons}
-use lib.Dec.{T}
+use Rattle.std.proofs.Common.{◌≡◌, refl, ap, sym, ◌∙◌, List, [], ◌∷◌, map, Bool, true, false, ◌⊎◌, inl, inr, ℕ, suc, ◌+◌, ◌*◌, ◌-◌, ◌/◌, ◌%◌, ◌≤◌, ◌<◌, mod-lt, div-lt_iff_lt-mul, mul-le-mul, add-one, arith, eq-eqb, ne_eqb, length, drop, drop_of_length-le, drop-cons, T}
+use Rattle.std.proofs.Math.ListN.{length-map}
 use Rattle.model.specs.Lists.{is_empty, eq_numbers}
 use Rattle.model.specs.Term.{arguments}
 use Rattle.model.specs.Area.{term_words}

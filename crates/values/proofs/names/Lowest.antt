@@ -1,15 +1,6 @@
 -- The lowest term of each class. Assumes nothing.
-use mathlib.Core.Path.{◌≡◌, refl, ap, ap₂, sym, ◌∙◌}
-use mathlib.Core.List.{List, ◌∷◌, ◌++◌, map}
-use mathlib.Core.Bool.{Bool}
-use mathlib.Core.Logic.{◌⊎◌, inl, inr}
-use Prim.Native.Nat.{ℕ, zero, suc, ◌+◌, ◌≤◌, ◌<◌}
-use native.Mathlib.Nat.{not-suc-le-zero, zero-add}
-use native.Mathlib.Omega.{arith}
-use borrow.Author.Count.{below_more}
-use lib.ListN.{length, get_or, drop, set, length-set}
-use lib.Seq.{get_or-set_same, get_or-set_other, drop-set-lt}
-use lib.Dec.{eqb, eqb→eq, eqb_refl}
+use Rattle.std.proofs.Common.{◌≡◌, refl, ap, ap₂, sym, ◌∙◌, List, ◌∷◌, ◌++◌, map, Bool, ◌⊎◌, inl, inr, ℕ, zero, suc, ◌+◌, ◌≤◌, ◌<◌, not-suc-le-zero, zero-add, arith, below_more, length, get_or, drop, set, length-set, get_or-set_same, get_or-set_other, drop-set-lt, eqb, eqb→eq}
+use Rattle.std.proofs.Math.Dec.{eqb_refl}
 use Rattle.model.specs.Lists.{from}
 use Rattle.model.specs.Term.{Book, Bindings, eq_tree, val, name}
 use Rattle.theory.proofs.Lists.Laws.{same_test, first-least, first_alike, length_from, get_or-from}

@@ -1,12 +1,6 @@
 -- What the two walks answer, and what their code does on the way, from rows of words: at a term that is finished, in progress
 -- or new, and at the i-th of the terms that a value is made of. Assumes nothing.
-use mathlib.Core.Path.{◌≡◌}
-use mathlib.Core.List.{List, [], ◌∷◌}
-use Prim.Native.Nat.{ℕ, ◌+◌, ◌*◌, ◌≤◌, ◌<◌}
-use native.Mathlib.Numerals.{add-one}
-use native.Mathlib.Omega.{arith}
-use lib.ListN.{length, get_or, drop, set, drop_of_length-le}
-use lib.Seq.{drop-cons}
+use Rattle.std.proofs.Common.{◌≡◌, List, [], ◌∷◌, ℕ, ◌+◌, ◌*◌, ◌≤◌, ◌<◌, add-one, arith, length, get_or, drop, set, drop_of_length-le, drop-cons}
 use Rattle.layout.specs.limits.Rows.{book_of, bound_of}
 use Rattle.values.specs.order.Marking.{marked, parts_in, Finished, Stuck, Walkable}
 use Rattle.values.proofs.order.Parts.{Good, good_book, part_lt}

@@ -1,11 +1,6 @@
 -- Reading one term: what a good book gives, and the words that are read. Assumes nothing.
-use mathlib.Core.Path.{◌≡◌, refl, ◌∙◌}
-use mathlib.Core.List.{List}
-use mathlib.Core.Option.{Option, none, some}
-use Prim.Native.Nat.{ℕ, zero, suc, ◌+◌, ◌*◌, ◌-◌, ◌≤◌, ◌<◌, zero-le, suc-le-suc}
-use native.Mathlib.Nat.{not-suc-le-zero}
-use native.Mathlib.Omega.{arith}
-use lib.ListN.{length, get_or, take, drop}
+use Rattle.std.proofs.Common.{◌≡◌, refl, ◌∙◌, List, ℕ, zero, suc, ◌+◌, ◌*◌, ◌-◌, ◌≤◌, ◌<◌, zero-le, suc-le-suc, not-suc-le-zero, arith, length, get_or, take, drop}
+use Rattle.std.proofs.Math.Option.{Option, none, some}
 use Rattle.model.specs.Term.{Node, var, app, arguments}
 use Rattle.model.specs.Area.{term_words}
 use Rattle.theory.proofs.Soundness.Facts.{Formed}

@@ -1,10 +1,6 @@
 -- What a term stands for, one step from what it may be bound to. Assumes nothing.
-use mathlib.Core.Path.{◌≡◌, refl, sym, ◌∙◌}
-use mathlib.Core.List.{List}
-use mathlib.Core.Option.{Option, none, some}
-use Prim.Native.Nat.{ℕ, suc, ◌*◌, ◌-◌, ◌<◌, zero-le, suc-le-suc}
-use native.Mathlib.Omega.{arith}
-use lib.ListN.{length, get_or}
+use Rattle.std.proofs.Common.{◌≡◌, refl, sym, ◌∙◌, List, ℕ, suc, ◌*◌, ◌-◌, ◌<◌, zero-le, suc-le-suc, arith, length, get_or}
+use Rattle.std.proofs.Math.Option.{Option, none, some}
 use Rattle.model.specs.Term.{Node, var, app, Book, Bindings, deref_step, deref}
 use Rattle.model.specs.Area.{term_words}
 use Rattle.theory.proofs.Soundness.Facts.{Acyclic}

@@ -1,13 +1,7 @@
 -- Along a list in which all that a value is made of comes first: a word for each term before a place of the list, of which
 -- something holds. Assumes nothing.
-use mathlib.Core.Path.{◌≡◌, refl, ap, sym, ◌∙◌}
-use mathlib.Core.List.{List, ◌++◌, map}
-use Prim.Native.Nat.{ℕ, ◌+◌, ◌≤◌, ◌<◌, zero-le}
-use native.Mathlib.Nat.{zero-add, not-suc-le-zero}
-use native.Mathlib.Decide.{ℕ_discrete}
-use native.Mathlib.Omega.{arith}
-use lib.ListN.{length, get_or, take, drop, set, take-append-drop, length-take, length-set}
-use lib.Seq.{get_or-set_same, get_or-set_other, get_or-take, length-take-le, drop-set-lt}
+use Rattle.std.proofs.Common.{◌≡◌, refl, ap, sym, ◌∙◌, List, ◌++◌, map, ℕ, ◌+◌, ◌≤◌, ◌<◌, zero-le, zero-add, not-suc-le-zero, arith, length, get_or, take, drop, set, take-append-drop, length-take, length-set, get_or-set_same, get_or-set_other, get_or-take, length-take-le, drop-set-lt}
+use Rattle.std.proofs.Math.Decide.{ℕ_discrete}
 use Rattle.model.specs.Lists.{from}
 use Rattle.theory.proofs.Lists.Rows.{map-from}
 use Rattle.layout.specs.limits.Rows.{at, node_of, binding_of}

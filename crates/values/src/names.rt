@@ -83,11 +83,20 @@ fn search_keys(rows: &[u32], classes: &[u32], list: &[u32], k: usize, t: u32) ->
     requires application { at rows.now (term_words * t) ≡ 0 → ⊥ }
     ensures { Earlier rows.now classes.now list.now k t result }
 {
-    list[..k].iter().position(|u| same_key(rows, classes, t, *u))
+    list[..k]
+        .iter()
+        .position(|u| same_key(rows, classes, t, *u))
 }
 
 // The same, where `place` is the only place to look at if the hash of no other key is that of `t`, or `k` if that of none is.
-fn earlier(rows: &[u32], classes: &[u32], list: &[u32], k: usize, t: u32, place: usize) -> Option<usize>
+fn earlier(
+    rows: &[u32],
+    classes: &[u32],
+    list: &[u32],
+    k: usize,
+    t: u32,
+    place: usize,
+) -> Option<usize>
     requires rows { Rows rows.now (length classes.now) list.now k × Row rows.now (length classes.now) t }
     requires application { at rows.now (term_words * t) ≡ 0 → ⊥ }
     requires place { (place ≤ k) × (place ≡ k → (j : ℕ) → j < k → key_at rows.now classes.now t ≡ key_at rows.now classes.now (at list.now j) → ⊥) }

@@ -9,9 +9,8 @@ ghost use Rattle.values.specs.order.Marking.{parts_in, Walkable, WalkAnswers};
 
 use crate::term;
 
-// The marks of a term: before it is met, which clearing writes, while it is walked, and behind that.
-const FREE: u32 = 0;
-
+// The marks of a term, behind the 0 that clearing writes: while it is walked, and once it is finished. They are words, since
+// what is lent for them is scratch of words.
 const IN_PROGRESS: u32 = 1;
 
 const FINISHED: u32 = 2;

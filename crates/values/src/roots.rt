@@ -56,7 +56,8 @@ fn occurs_step(rows: &[u32], bindings: &[u32], flags: &[u32], v: u32, t: u32) ->
     }
 }
 
-// Whether the variable `v` occurs in the value of term `t`: flags along the list, up to that term's own. `flags` is scratch.
+// Whether the variable `v` occurs in the value of term `t`: flags along the list, up to that term's own. `flags` is scratch of words,
+// so a flag is a word, 1 or 0.
 pub fn occurs_in(
     rows: &[u32],
     bindings: &[u32],

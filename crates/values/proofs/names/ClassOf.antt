@@ -1,6 +1,6 @@
 -- The class of a term, the first along the list with its value: it is found from the classes of what the value is made of, and
 -- for an application from the keys of the terms before it. Assumes nothing.
-use Rattle.std.proofs.Common.{◌≡◌, refl, ap, ap₂, sym, ◌∙◌, List, [], ◌∷◌, map, ◌⊎◌, inl, inr, ℕ, suc, ◌*◌, ◌-◌, ◌≤◌, ◌<◌, zero-le, suc-le-suc, arith, length, get_or, take, get_or-take, length-take-le}
+use Rattle.std.proofs.Common.{◌≡◌, refl, ap, ap₂, sym, ◌∙◌, List, [], ◌∷◌, map, ◌⊎◌, inl, inr, ℕ, suc, ◌*◌, ◌≤◌, ◌<◌, zero-le, suc-le-suc, arith, length, get_or, take, get_or-take, length-take-le}
 use Rattle.std.proofs.Math.Option.{Option, none, some}
 use Rattle.model.specs.Lists.{first}
 use Rattle.model.specs.Term.{Node, var, app, arguments, Tree, free, node, Trees, more, trees, eq_tree, val}
@@ -11,12 +11,12 @@ use Rattle.theory.proofs.Lists.Laws.{first_holds, first-least}
 use Rattle.theory.proofs.Table.Search.{lt-or-le}
 use Rattle.theory.proofs.Values.Equations.{eq_tree-eq, eq_tree_refl, val-free, val-bound, val-app}
 use Rattle.layout.specs.limits.Rows.{at, node_of, book_of, binding_of, bound_of}
-use Rattle.layout.proofs.limits.Rows.{length-book_of, get_or-book_of, get_or-bound_of, node-var, binding_none, binding_some, good_formed}
+use Rattle.layout.proofs.limits.Rows.{length-book_of, get_or-book_of, get_or-bound_of, node-var, good_formed}
 use Rattle.values.specs.order.Order.{parts_of, Before}
 use Rattle.values.specs.roots.Reading.{Listed, Readable}
 use Rattle.values.proofs.roots.Reading.{readable, node-arguments}
 use Rattle.values.proofs.roots.Settled.{list-fits, term-lt, settled-parts}
-use Rattle.values.specs.names.Keys.{key_of, key_at, Row, Rows, Earlier}
+use Rattle.values.specs.names.Keys.{key_of, key_at, Row, Rows}
 use Rattle.values.specs.names.Classes.{class_of, key_in, Classable}
 
 -- classes that agree on the arguments give the same key

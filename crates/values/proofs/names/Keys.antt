@@ -1,5 +1,5 @@
 -- Keys of terms, from the words of a row: their hash, and whether two are the same. Assumes nothing.
-use Rattle.std.proofs.Common.{◌≡◌, refl, ap, sym, ◌∙◌, List, [], ◌∷◌, map, Bool, true, false, ◌⊎◌, inl, inr, ℕ, suc, ◌+◌, ◌*◌, ◌-◌, ◌/◌, ◌%◌, ◌≤◌, ◌<◌, mod-lt, div-lt_iff_lt-mul, mul-le-mul, add-one, arith, eq-eqb, ne_eqb, length, drop, drop_of_length-le, drop-cons, T}
+use Rattle.std.proofs.Common.{◌≡◌, refl, ap, sym, ◌∙◌, List, [], ◌∷◌, map, true, false, ◌⊎◌, inl, inr, ℕ, suc, ◌+◌, ◌*◌, ◌-◌, ◌≤◌, ◌<◌, add-one, arith, eq-eqb, ne_eqb, length, drop, drop_of_length-le, drop-cons, T}
 use Rattle.std.proofs.Math.ListN.{length-map}
 use Rattle.model.specs.Lists.{is_empty, eq_numbers}
 use Rattle.model.specs.Term.{arguments}
@@ -9,7 +9,7 @@ use Rattle.theory.proofs.Table.Search.{eq-or-not}
 use Rattle.layout.specs.limits.Rows.{at, node_of}
 use Rattle.layout.proofs.limits.Rows.{node-var}
 use Rattle.values.proofs.roots.Reading.{node-arguments}
-use Rattle.values.specs.names.Keys.{key_of, key_at, mixed, hash_from, Row, Earlier}
+use Rattle.values.specs.names.Keys.{key_of, key_at, mixed, hash_from}
 
 mixed-none : (c : ℕ) → mixed 0 c ≡ c
 unfolding mixed

@@ -1,9 +1,8 @@
 -- The parts of a term: what they are in rows of words, that they are terms, and that a term ends one step behind them.
 -- Assumes nothing.
-use Rattle.std.proofs.Common.{◌≡◌, refl, sym, ◌∙◌, List, [], ◌∷◌, Bool, true, false, ℕ, zero, suc, ◌+◌, ◌*◌, ◌-◌, ◌≤◌, ◌<◌, le_of_suc-le-suc, not-suc-le-zero, arith, length, get_or, T}
+use Rattle.std.proofs.Common.{◌≡◌, refl, ◌∙◌, List, [], ◌∷◌, Bool, true, false, ℕ, zero, suc, ◌*◌, ◌-◌, ◌≤◌, ◌<◌, le_of_suc-le-suc, not-suc-le-zero, arith, length, get_or, T}
 use Rattle.std.proofs.Math.Option.{Option, none, some}
 use Rattle.std.proofs.Math.Decide.{ℕ_discrete}
-use Rattle.model.specs.Limits.{max_arity}
 use Rattle.model.specs.Lists.{all}
 use Rattle.model.specs.Term.{Node, var, app, arguments, Book, Bindings, ends_step, ends}
 use Rattle.model.specs.Area.{term_words}
@@ -14,6 +13,7 @@ use Rattle.layout.specs.limits.Rows.{at, node_of, book_of, binding_of, bound_of,
 use Rattle.layout.proofs.limits.Rows.{length-book_of, get_or-book_of, get_or-bound_of, node-var, node-app, binding_none, binding_some, good_formed}
 use Rattle.values.specs.order.Order.{parts_of, parts}
 use Rattle.values.specs.order.Marking.{parts_in}
+use Rattle.values.proofs.roots.Reading.{parts-lt}
 
 -- the element of a list that has one
 only : (a i : ℕ) → i < length (a ∷ []) → a ≡ get_or (a ∷ []) i 0
@@ -79,15 +79,6 @@ parts-step p var none e = tt
 parts-step p var (some u) e = and_left (p u) true e
 parts-step p (app s args) o e = e
 
--- what holds of the arguments and of what is bound holds of the parts
-parts_below : (n : ℕ) (x : Node) (o : Option ℕ) → ((i : ℕ) → i < length (arguments x) → get_or (arguments x) i 0 < n)
-    → ((u : ℕ) → o ≡ some u → u < n) → (i : ℕ) → i < length (parts_of x o) → get_or (parts_of x o) i 0 < n
-unfolding parts_of arguments
-parts_below n var none h g i l = absurd (not-suc-le-zero l)
-parts_below n var (some u) h g zero l = g u refl
-parts_below n var (some u) h g (suc i) l = absurd (not-suc-le-zero (le_of_suc-le-suc l))
-parts_below n (app s args) o h g i l = h i l
-
 module _ (b : Book) (β : Bindings) where
   pub ends-parts : (k t : ℕ) → T (ends b β (suc k) t) → T (all (ends b β k) (parts b β t))
   unfolding ends parts
@@ -119,4 +110,4 @@ module _ (b : Book) (β : Bindings) where
     pub part_lt : (t : ℕ) → t < length b → (i : ℕ) → i < length (parts b β t) → get_or (parts b β t) i 0 < length b
     unfolding parts
     part_lt t l =
-        parts_below (length b) (get_or b t var) (get_or β t none) (argument-lt b β formed t l) (λ u q. (formed.bound-var t u q).1)
+        parts-lt (length b) (get_or b t var) (get_or β t none) (argument-lt b β formed t l) (λ u q. (formed.bound-var t u q).1)

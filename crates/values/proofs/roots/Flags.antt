@@ -1,5 +1,5 @@
 -- Whether a variable occurs in a value: one step from the flags of the terms below. Assumes nothing.
-use Rattle.std.proofs.Common.{◌≡◌, refl, ap, ap₂, sym, ◌∙◌, List, [], ◌∷◌, Bool, true, false, not, ◌||◌, ℕ, suc, ◌+◌, ◌*◌, ◌-◌, ◌≤◌, ◌<◌, zero-le, suc-le-suc, add-one, arith, length, get_or, drop, drop_of_length-le, drop-cons, eqb, eq-eqb, ne_eqb}
+use Rattle.std.proofs.Common.{◌≡◌, refl, ap, ap₂, sym, ◌∙◌, List, [], ◌∷◌, Bool, true, false, not, ◌||◌, ℕ, suc, ◌*◌, ◌<◌, zero-le, suc-le-suc, arith, length, get_or, eqb, eq-eqb, ne_eqb}
 use Rattle.std.proofs.Math.Option.{Option, none, some}
 use Rattle.std.specs.Int.{from_bool}
 use Rattle.std.specs.List.{list_any}
@@ -10,7 +10,7 @@ use Rattle.theory.proofs.Soundness.Facts.{Formed, Acyclic}
 use Rattle.theory.proofs.Soundness.Terms.{acyclic_facts}
 use Rattle.theory.proofs.Values.Equations.{val-free, val-bound, val-app}
 use Rattle.layout.specs.limits.Rows.{at, node_of, book_of, binding_of, bound_of}
-use Rattle.layout.proofs.limits.Rows.{length-book_of, get_or-book_of, get_or-bound_of, node-var, binding_none, binding_some, good_formed}
+use Rattle.layout.proofs.limits.Rows.{length-book_of, get_or-book_of, get_or-bound_of, node-var, good_formed}
 use Rattle.values.specs.order.Order.{parts_of}
 use Rattle.values.specs.roots.Flags.{flag, flagged, any, occurs_step}
 use Rattle.values.proofs.roots.Reading.{node-arguments}

@@ -1,16 +1,16 @@
 -- Reading one term: what a good book gives, and the words that are read. Assumes nothing.
-use Rattle.std.proofs.Common.{◌≡◌, refl, ◌∙◌, List, ℕ, zero, suc, ◌+◌, ◌*◌, ◌-◌, ◌≤◌, ◌<◌, zero-le, suc-le-suc, not-suc-le-zero, arith, length, get_or, take, drop}
+use Rattle.std.proofs.Common.{◌≡◌, refl, ◌∙◌, List, ℕ, zero, suc, ◌*◌, ◌-◌, ◌≤◌, ◌<◌, zero-le, suc-le-suc, not-suc-le-zero, arith, length, get_or}
 use Rattle.std.proofs.Math.Option.{Option, none, some}
 use Rattle.model.specs.Term.{Node, var, app, arguments}
 use Rattle.model.specs.Area.{term_words}
 use Rattle.theory.proofs.Soundness.Facts.{Formed}
 use Rattle.layout.specs.limits.Rows.{at, node_of, book_of, binding_of, bound_of, GoodTerms}
-use Rattle.layout.proofs.limits.Rows.{length-book_of, get_or-book_of, get_or-bound_of, node-var, node-app, binding_some, good_formed}
+use Rattle.layout.proofs.limits.Rows.{length-book_of, get_or-book_of, get_or-bound_of, node-var, node-app, good_formed}
 use Rattle.values.specs.order.Order.{parts_of}
 use Rattle.values.specs.roots.Reading.{Readable}
 
 -- what a value is made of is below m, where the arguments and the bound term are
-parts-lt : (m : ℕ) (x : Node) (o : Option ℕ) → ((i : ℕ) → i < length (arguments x) → get_or (arguments x) i 0 < m)
+pub parts-lt : (m : ℕ) (x : Node) (o : Option ℕ) → ((i : ℕ) → i < length (arguments x) → get_or (arguments x) i 0 < m)
     → ((u : ℕ) → o ≡ some u → u < m) → (j : ℕ) → j < length (parts_of x o) → get_or (parts_of x o) j 0 < m
 unfolding parts_of arguments
 parts-lt m var none below bound j l = absurd (not-suc-le-zero l)

@@ -1,5 +1,5 @@
 -- What a term stands for, one step from what it may be bound to. Assumes nothing.
-use Rattle.std.proofs.Common.{◌≡◌, refl, sym, ◌∙◌, List, ℕ, suc, ◌*◌, ◌-◌, ◌<◌, zero-le, suc-le-suc, arith, length, get_or}
+use Rattle.std.proofs.Common.{◌≡◌, refl, sym, ◌∙◌, List, ℕ, suc, ◌*◌, ◌<◌, zero-le, suc-le-suc, arith, length, get_or}
 use Rattle.std.proofs.Math.Option.{Option, none, some}
 use Rattle.model.specs.Term.{Node, var, app, Book, Bindings, deref_step, deref}
 use Rattle.model.specs.Area.{term_words}

@@ -1,6 +1,6 @@
 -- What holds between the steps of a walk through the terms: each term has a mark, 0 before it is met, 1 in progress and 2
 -- once it is finished, and the finished terms are listed. Assumes nothing: these are definitions.
-use Rattle.std.specs.Prelude.{◌≡◌, List, Bool, true, false, cond, ℕ, zero, suc, ◌≤◌, ◌<◌, length, get_or, T, eqb, Option, MatchOption}
+use Rattle.std.specs.Prelude.{◌≡◌, List, Bool, cond, ℕ, zero, suc, ◌≤◌, ◌<◌, length, get_or, T, eqb, Option, MatchOption}
 use Rattle.model.specs.Lists.{all}
 use Rattle.model.specs.Term.{Book, Bindings, ends}
 use Rattle.layout.specs.limits.Rows.{book_of, bound_of, GoodTerms}

@@ -1,7 +1,7 @@
 -- Each turn pushes the hash of one key more, and finds its class.
 use Rattle.std.proofs.Common.{sym, arith}
 use Rattle.values.proofs.roots.Settled.{length-list, turn}
-use Rattle.values.proofs.names.Classifying.{classifying_none, next_row, next-room, next_classable, classifying_more, classified}
+use Rattle.values.proofs.names.Classifying.{classifying_none, next_row, next_classable, classifying_more, classified}
 use Rattle.values.proofs.names.classify.Goals as goal
 
 pub slice_bounds-t-items-end : goal.slice_bounds-t-items-end

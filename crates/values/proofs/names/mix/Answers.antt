@@ -1,5 +1,4 @@
 -- The sum fits a word of eight bytes.
-use Rattle.std.proofs.Common.{arith}
 use Rattle.values.specs.names.Keys.{mixed}
 use Rattle.values.proofs.names.mix.Goals as goal
 

@@ -1,5 +1,5 @@
 -- Each turn compares the classes of the first arguments that are left.
-use Rattle.std.proofs.Common.{◌≡◌, List, ℕ, ◌∷◌, length, inl, inr, refl, ap, sym, ◌∙◌, arith}
+use Rattle.std.proofs.Common.{◌≡◌, length, inl, inr, ap, sym, ◌∙◌, arith}
 use Rattle.layout.specs.limits.Rows.{at}
 use Rattle.values.proofs.names.Keys.{numbers-same, numbers_differ, numbers-none, numbers_lengths}
 use Rattle.values.proofs.names.same_classes.Goals as goal

@@ -7,5 +7,5 @@ use Rattle.values.proofs.names.same_classes.Given as goal
 abbrev pub invariant-loop-a : goal.invariant-loop-a
 invariant-loop-a l = record {
   same : eq_numbers (map (at l.classes) l.a-iterator.a.rest.now) (map (at l.classes) l.a-iterator.b.rest.now) ≡ eq_numbers (map (at l.classes) l.args) (map (at l.classes) l.others);
-  as_many : length l.a-iterator.a.rest.now ≡ length l.a-iterator.b.rest.now
+  as_many : length l.a-iterator.a.rest.now ≡ length l.a-iterator.b.rest.now;
 }

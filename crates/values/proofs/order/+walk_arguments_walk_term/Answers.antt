@@ -1,5 +1,5 @@
 -- A walk of parts goes from part to part; a walk of a term marks it before and behind the walk of its parts (Outcomes).
-use Rattle.std.proofs.Common.{◌≡◌, List, ℕ, ◌<◌, length, get_or, refl, arith}
+use Rattle.std.proofs.Common.{◌≡◌, List, ℕ, ◌<◌, length, get_or, arith}
 use Rattle.values.specs.order.Marking.{parts_in, Walkable}
 use Rattle.values.proofs.order.Outcomes.{term-room, outcome-finished, outcome_met, New, start-ready, fewer_left, outcome_stuck, next_place, outcome-term, Between, Part, outcome-parts, part_ready, outcome_part, between_more}
 use Rattle.values.proofs.order.+walk_arguments_walk_term.Goals as goal
@@ -29,9 +29,9 @@ pub walk_arguments-loop-i-preserved : goal.walk_arguments-loop-i-preserved
 walk_arguments-loop-i-preserved t c =
     let part = part_at c.loop-i.invariant c.part_count-i-end.ensures c.loop-i-test.true c.part-u.ensures in
     elim c.if-marks-u-ne-FINISHED.branch [
-      walk_arguments-then-marks-u-ne-FINISHED+in_ok-place w ↦ rw (w.marks-is, w.list-is, w.place-is) (between_more part w.in_ok-place.ensures)
-    | walk_arguments-else-marks-u-ne-FINISHED w ↦
-        rw (w.marks-is, w.list-is, w.place-is) (between_more part (outcome-finished (part_ready part) w.if-marks-u-ne-FINISHED.false))
+      | walk_arguments-then-marks-u-ne-FINISHED+in_ok-place w ↦ rw (w.marks-is, w.list-is, w.place-is) (between_more part w.in_ok-place.ensures)
+      | walk_arguments-else-marks-u-ne-FINISHED w ↦
+          rw (w.marks-is, w.list-is, w.place-is) (between_more part (outcome-finished (part_ready part) w.if-marks-u-ne-FINISHED.false))
     ]
 
 pub walk_arguments-returns : goal.walk_arguments-returns

@@ -1,5 +1,5 @@
 -- The closure may be called at each argument, and `any` answers as the recursion does.
-use Rattle.std.proofs.Common.{◌<◌, length, sym, subst, ◌∙◌, arith, rules, tests}
+use Rattle.std.proofs.Common.{◌<◌, length, ◌∙◌, rules, tests}
 use Rattle.std.proofs.lemmas.List.{get_or_default}
 use Rattle.std.proofs.lemmas.Iterator.{YieldsList-from_slice}
 use Rattle.std.proofs.lemmas.Iterator.Adapters.{serves_from_places}

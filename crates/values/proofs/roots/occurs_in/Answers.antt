@@ -3,7 +3,7 @@ use Rattle.std.proofs.Common.{sym, ap, ◌∙◌, arith}
 use Rattle.model.specs.Term.{val, occurs}
 use Rattle.layout.specs.limits.Rows.{book_of, bound_of}
 use Rattle.values.specs.roots.Flags.{flag}
-use Rattle.values.proofs.roots.Settled.{length-list, turn, filled_none, next_readable, filled_more, filled_all}
+use Rattle.values.proofs.roots.Settled.{length-list, turn, next_readable, filled_more, filled_all}
 use Rattle.values.proofs.roots.Flags.{flag-stands, flag-word, occurs-next}
 use Rattle.values.proofs.roots.occurs_in.Goals as goal
 

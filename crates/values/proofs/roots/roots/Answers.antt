@@ -1,6 +1,6 @@
 -- Each turn finds one word more from those of the terms before it.
 use Rattle.std.proofs.Common.{sym, arith}
-use Rattle.values.proofs.roots.Settled.{Filled, filled_none, length-list, turn, next_readable, filled_more, filled_map}
+use Rattle.values.proofs.roots.Settled.{length-list, turn, next_readable, filled_more, filled_map}
 use Rattle.values.proofs.roots.RootStep.{root-next}
 use Rattle.values.proofs.roots.roots.Goals as goal
 

@@ -1,11 +1,10 @@
 // The classes of a table numbered afresh, in the order in which the lines and the arguments lead to them
 // (specs/numbering/Numbering.antt).
 
-ghost use Rattle.std.specs.Prelude.{◌≡◌, [], ◌∷◌, map, ℕ, ◌+◌, ◌*◌, ◌≤◌, ◌<◌, length, get_or};
+ghost use Rattle.std.specs.Prelude.{◌≡◌, [], ◌∷◌, ◌++◌, map, ℕ, ◌+◌, ◌*◌, ◌≤◌, ◌<◌, length, get_or, drop};
 ghost use Rattle.model.specs.Area.{entry_row_words};
 ghost use Rattle.model.specs.Report.{class, argument_classes};
 ghost use Rattle.layout.specs.limits.Rows.{loaded_entry, table_of};
-ghost use Rattle.runs.specs.Runs.{over_at};
 ghost use Rattle.report.specs.numbering.Numbering.{Entries, Closed, Marked, new_number, NumberRoom, MetSoFar, MetAll, Numbered};
 
 // The class of the entry in row `i`.
@@ -48,11 +47,9 @@ fn meet_all(
         met.new numbers.new result }
 {
     let mut n = count;
-    let mut j = 0;
-    while j < items.len() {
-        let x = class_at(entries, items[j] as usize);
+    for i in items {
+        let x = class_at(entries, *i as usize);
         n = meet(m, met, numbers, n, x);
-        j += 1;
     }
     n
 }
@@ -80,19 +77,15 @@ fn meet_arguments(
     meet_all(&arguments[..end], entries, m, met, numbers, count)
 }
 
-// The new numbers of the entries `items`, by the marks, into `out` from place `at` on.
-pub fn renumber(items: &[u32], entries: &[u32], numbers: &[u32], out: &mut [u32], at: usize)
+// The new numbers of the entries `items`, by the marks, to the front of `out`.
+pub fn renumber(items: &[u32], entries: &[u32], numbers: &[u32], out: &mut [u32])
     requires by_index { (j : ℕ) → j < length items.now → Marked entries.now numbers.now (get_or items.now j 0) }
-    requires in_bounds { at + length items.now ≤ length out.old }
-    ensures { out.new ≡ over_at out.old at (map (new_number entries.now numbers.now) items.now) }
+    requires in_bounds { length items.now ≤ length out.old }
+    ensures { out.new ≡ map (new_number entries.now numbers.now) items.now ++ drop (length items.now) out.old }
 {
-    let mut next = at;
-    let mut j = 0;
-    while j < items.len() {
-        let x = class_at(entries, items[j] as usize) as usize;
-        out[next] = numbers[x] - 1;
-        next += 1;
-        j += 1;
+    for (j, i) in items.iter().enumerate() {
+        let x = class_at(entries, *i as usize) as usize;
+        out[j] = numbers[x] - 1;
     }
 }
 

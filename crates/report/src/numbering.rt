@@ -12,11 +12,12 @@ fn class_at(entries: &[u32], i: usize) -> u32
     requires { entry_row_words * i + entry_row_words ≤ length entries.now }
     ensures { result ≡ (loaded_entry entries.now i).same_as }
 {
-    let e = layout::entry::entry_at(entries, i);
-    e.same_as
+    layout::entry::entry_at(entries, i).same_as
 }
 
 // Meets class `x` of `m`: it gets the next number unless it has one. The answer is how many classes were met.
+// `met`, `numbers` and `count` are parameters here and below: a struct of them would be no plainer, since each contract on it would have
+// to say of two `&mut` that it keeps them (`self.new.met.ghost_name ≡ self.old.met.ghost_name`), and it could have no ghost field.
 fn meet(m: usize, met: &mut [u32], numbers: &mut [u32], count: usize, x: u32) -> usize
     requires met_so_far { MetSoFar m met.old numbers.old count }
     requires x_lt_m { x < m }
@@ -72,9 +73,15 @@ fn meet_arguments(
     if e.kind == 0 {
         return count;
     }
-    let end = e.count as usize;
     let arguments = e.arguments;
-    meet_all(&arguments[..end], entries, m, met, numbers, count)
+    meet_all(
+        &arguments[..e.count as usize],
+        entries,
+        m,
+        met,
+        numbers,
+        count,
+    )
 }
 
 // The new numbers of the entries `items`, by the marks, to the front of `out`.
@@ -106,6 +113,7 @@ pub fn number_classes(
     layout::clearing::clear(numbers, m);
     let mut count = meet_all(lines, entries, m, met, numbers, 0);
     let mut i = 0;
+    // `count` grows in the loop.
     while i < count {
         let x = met[i] as usize;
         count = meet_arguments(entries, m, x, met, numbers, count);

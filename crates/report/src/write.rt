@@ -25,7 +25,7 @@ fn number_lines(lines: &[u32], entries: &[u32], numbers: &[u32], count: usize, h
     head[k + 1] = count as u32;
 }
 
-// The numbers of an entry, at the front of an array.
+// The numbers of an entry, in fixed memory: at the front of an array.
 #[derive(Clone, Copy)]
 struct Numbers {
     array: [u32; MOST],
@@ -63,7 +63,7 @@ impl<'a> Source<'a> {
         ensures { (s : State) → Shows s self.entry → take result.count result.array ≡ row_numbers s n }
     {
         let i = self.met[n] as usize;
-        let mut array: [u32; MOST] = [0; MOST];
+        let mut array = [0; MOST];
         let e = layout::entry::entry_at(self.entries, i);
         let left = self.names[e.left as usize];
         let right = self.names[e.right as usize];
@@ -171,13 +171,12 @@ pub fn report(
 {
     let count = crate::numbering::number_classes(lines, entries, m, met, numbers);
     number_lines(lines, entries, numbers, count, head);
-    let end = lines.len() + 2;
     let source = Source {
         names,
         entries,
         met: &met[..count],
         numbers,
-        head: &head[..end],
+        head: &head[..lines.len() + 2],
     };
     source.emit(out, written)
 }

@@ -3,4 +3,4 @@ use Rattle.report.proofs.numbering.Rows.{class-read}
 use Rattle.report.proofs.numbering.class_at.Goals as goal
 
 pub returns : goal.returns
-returns c = class-read _ _ c.requires _ c.entry_at-e.ensures
+returns c = class-read _ _ c.requires _ c.entry_at.ensures

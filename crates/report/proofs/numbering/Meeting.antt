@@ -1,14 +1,6 @@
 -- Classes that are met one after the other: one class, more behind, and the classes of a list of entries. Assumes nothing.
-use mathlib.Core.Path.{◌≡◌, refl, sym, subst, ◌∙◌}
-use mathlib.Core.List.{List, [], ◌∷◌, ◌++◌}
-use mathlib.Core.Bool.{Bool, true, false}
-use Prim.Native.Nat.{ℕ, ◌+◌, ◌≤◌, ◌<◌}
-use native.Mathlib.Numerals.{add-one}
-use native.Mathlib.Omega.{arith}
-use borrow.Author.Tests.{eqb-true, eqb-false}
-use lib.ListN.{length, take, set, length-append, length-set}
-use lib.Seq.{length-take-le, take-suc-set, get_or-set_same, get_or-set_other}
-use lib.Dec.{eqb}
+use Rattle.std.proofs.Common.{◌≡◌, refl, sym, subst, ◌∙◌, List, [], ◌∷◌, ◌++◌, Bool, true, false, ℕ, ◌+◌, ◌≤◌, ◌<◌, add-one, arith, eqb-true, length, take, set, length-append, length-set, length-take-le, take-suc-set, get_or-set_same, get_or-set_other, eqb}
+use borrow.Author.Tests.{eqb-false}
 use Rattle.model.specs.Lists.{first}
 use Rattle.model.specs.Report.{meet, meet_all}
 use Rattle.theory.specs.Numbering.{Met}

@@ -1,13 +1,7 @@
 -- The report's bytes: those before the entries, then entry after entry; each number is small, and there are few. Assumes
 -- nothing.
-use mathlib.Core.Path.{◌≡◌, refl, sym, ap, ◌∙◌}
-use mathlib.Core.List.{List, [], ◌++◌, append_assoc, append-nil}
-use Prim.Native.Nat.{ℕ, suc, ◌+◌, ◌≤◌, ◌<◌}
-use native.Mathlib.Numerals.{add-one}
-use native.Mathlib.Omega.{arith}
-use lib.ListN.{length, get_or, take, drop, length-append, take-append-drop}
-use lib.Seq.{take-suc, take-length}
-use lib.Dec.{leb, le→leb}
+use Rattle.std.proofs.Common.{◌≡◌, refl, sym, ap, ◌∙◌, List, [], ◌++◌, append_assoc, append-nil, ℕ, suc, ◌+◌, ◌≤◌, ◌<◌, add-one, arith, length, get_or, take, drop, length-append, take-append-drop, take-suc, leb, le→leb}
+use Rattle.std.proofs.Math.Seq.{take-length}
 use Rattle.leb128.specs.Number.{max_number}
 use Rattle.model.specs.Lists.{concat_map}
 use Rattle.model.specs.Step.{State}

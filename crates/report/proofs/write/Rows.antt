@@ -1,11 +1,6 @@
 -- The numbers of an entry, from its row: what is read, and what they are for a hole and for a common entry. Assumes nothing.
-use mathlib.Core.Path.{◌≡◌, sym, ap, subst, ◌∙◌}
-use mathlib.Core.List.{List, [], ◌∷◌, ◌++◌, map, append-nil}
-use Prim.Native.Nat.{ℕ, suc, ◌+◌, ◌*◌, ◌≤◌, ◌<◌}
-use native.Mathlib.Numerals.{add-one}
-use native.Mathlib.Omega.{arith}
-use lib.ListN.{length, take, drop, length-map}
-use lib.Seq.{take_at}
+use Rattle.std.proofs.Common.{◌≡◌, sym, ap, subst, ◌∙◌, List, [], ◌∷◌, ◌++◌, map, append-nil, ℕ, suc, ◌+◌, ◌*◌, ◌≤◌, ◌<◌, add-one, arith, length, take, drop, take_at}
+use Rattle.std.proofs.Math.ListN.{length-map}
 use Rattle.model.specs.Limits.{max_symbol}
 use Rattle.model.specs.Term.{Node, symbol, Book, Bindings}
 use Rattle.model.specs.Table.{Kind, hole, common, Entry, Table, entry}

@@ -6,9 +6,6 @@ use Rattle.report.proofs.numbering.meet_all.Goals as goal
 pub loop-i-init : goal.loop-i-init
 loop-i-init c = meet-none c.requires.met_so_far
 
-pub meet-n-requires-clause-met_so_far : goal.meet-n-requires-clause-met_so_far
-meet-n-requires-clause-met_so_far c = c.loop-i.invariant.counted
-
 pub meet-n-requires-clause-x_lt_m : goal.meet-n-requires-clause-x_lt_m
 meet-n-requires-clause-x_lt_m c = item_class _ _ _ c.requires.closed _ c.loop-i-test.true _ c.class_at-x.ensures
 

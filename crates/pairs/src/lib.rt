@@ -19,14 +19,16 @@ struct Found {
 }
 
 // The hash of the pair (a, b).
+#[tactic(auto, unfolding(crate::specs::Index::hash_of))]
 fn hash(a: u32, b: u32) -> u64
     ensures { result ≡ hash_of a b }
 {
-    let low = (a as u64) * 16384 + (b as u64) % 16384;
-    low * 204665 % 70368744177664 + (b as u64) / 16384 * 70368744177664
+    let low = u64::from(a) * 16384 + u64::from(b) % 16384;
+    low * 204665 % 70368744177664 + u64::from(b) / 16384 * 70368744177664
 }
 
 // The first place of (a, b) among the first `count` pairs, or else `count`, the next free place; and the cell where the way ends.
+// No Option: the search yields a place either way, as document 01 has it.
 fn search(lefts: &[u32], rights: &[u32], cells: &[u32], count: usize, a: u32, b: u32) -> Found
     requires { Indexed lefts.now rights.now cells.now count }
     ensures { Searched lefts.now rights.now cells.now count a b result }
@@ -34,8 +36,8 @@ fn search(lefts: &[u32], rights: &[u32], cells: &[u32], count: usize, a: u32, b:
     let mixed = hash(a, b);
     let mut way = mixed % 65536 + mixed / 268435456 * 65536;
     let mut cell = (mixed / 65536) as usize % BUCKETS;
-    let mut link = cells[cell];
     let place = loop {
+        let link = cells[cell];
         if link == 0 {
             break count;
         }
@@ -44,8 +46,7 @@ fn search(lefts: &[u32], rights: &[u32], cells: &[u32], count: usize, a: u32, b:
             break at;
         }
         cell = BUCKETS + 2 * at + (way % 2) as usize;
-        link = cells[cell];
-        way = way / 2;
+        way /= 2;
     };
     Found { place, cell }
 }
@@ -55,8 +56,7 @@ pub fn find(lefts: &[u32], rights: &[u32], cells: &[u32], count: usize, a: u32, 
     requires { Indexed lefts.now rights.now cells.now count }
     ensures { result ≡ place_of lefts.now rights.now count a b }
 {
-    let found = search(lefts, rights, cells, count, a, b);
-    found.place
+    search(lefts, rights, cells, count, a, b).place
 }
 
 // Puts (a, b) at place `count`, and answers its first place: an older one, or else `count`, to which a link goes then.
@@ -79,8 +79,7 @@ pub fn push(
     cells[own] = 0;
     cells[own + 1] = 0;
     if found.place == count {
-        let cell = found.cell;
-        cells[cell] = (count + 1) as u32;
+        cells[found.cell] = (count + 1) as u32;
     }
     found.place
 }

@@ -12,11 +12,8 @@ pub fn run_length(words: &[u32], start: usize, count: usize) -> usize
     ensures { result ≡ length (run_bytes words.now start count) }
 {
     let mut sum: usize = 0;
-    let mut i: usize = 0;
-    while i < count {
-        let at = start + i;
-        sum += leb128::length_of(words[at]);
-        i += 1;
+    for w in &words[start..start + count] {
+        sum += leb128::length_of(*w);
     }
     sum
 }
@@ -38,11 +35,8 @@ pub fn put_run(words: &[u32], start: usize, count: usize, out: &mut [u8], at: us
     ensures bytes { out.new ≡ over_at out.old at (run_bytes words.now start count) }
 {
     let mut next = at;
-    let mut i: usize = 0;
-    while i < count {
-        let from = start + i;
-        next = put_number(out, next, words[from]);
-        i += 1;
+    for w in &words[start..start + count] {
+        next = put_number(out, next, *w);
     }
     next
 }

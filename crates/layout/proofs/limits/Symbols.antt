@@ -44,16 +44,16 @@ module _ (rows : List ℕ) (l r : ℕ) where
 
   -- an application is like one of the same symbol and the same count
   pub alike-words : (at rows (term_words * l) ≡ 0 → ⊥) → term_words * l + 2 + at rows (term_words * l + 1) ≤ length rows
-      → term_words * r + 2 + at rows (term_words * r + 1) ≤ length rows
-      → alike (node_of rows l) (node_of rows r) ≡
-      eqb (at rows (term_words * l)) (at rows (term_words * r)) && eqb (at rows (term_words * l + 1)) (at rows (term_words * r + 1))
+      → term_words * r + 2 + at rows (term_words * r + 1) ≤ length rows → (t : Bool) → t ≡ eqb (at rows (term_words * l)) (at rows (term_words * r))
+      → t && eqb (at rows (term_words * l + 1)) (at rows (term_words * r + 1)) ≡ alike (node_of rows l) (node_of rows r)
   unfolding node_of
-  alike-words d p q =
+  alike-words d p q t e =
       rw (
         ne_eqb (at rows (term_words * l)) 0 d,
         symbols_at (at rows (term_words * l)) (at rows (term_words * r)) _ _ d (eqb (at rows (term_words * r)) 0) refl,
         row-long rows (term_words * l) _ p,
         row-long rows (term_words * r) _ q,
+        e,
       )
 
   -- terms that are alike are applications

@@ -5,9 +5,12 @@ ghost use Rattle.std.specs.Prelude.{◌≡◌, [], ◌++◌, ◌+◌, ◌≤◌,
 ghost use Rattle.model.specs.Step.{State};
 ghost use Rattle.model.specs.Report.{number_bytes, report_bytes};
 ghost use Rattle.model.specs.Call.{emit};
+ghost use Rattle.refusal.specs.Numbers.{number, counted};
 ghost use Rattle.runs.specs.Emits.{Writes};
 ghost use Rattle.report.specs.numbering.Numbering.{NumberRoom};
 ghost use Rattle.report.specs.write.Shown.{classes, Tabled, head_numbers, row_numbers, Told, Shown, GivenState};
+
+use refusal::Refusal;
 
 // The most numbers of an entry: two names, the symbol, the count and the arguments.
 const MOST: usize = 4 + layout::limits::MAX_ARITY;
@@ -137,22 +140,20 @@ impl<'a> Source<'a> {
         at
     }
 
-    // Writes the report: 13 where `out` is too short. `written` is the number of bytes written, 0 on a refusal.
-    fn emit(self, out: &mut [u8], written: &mut u32) -> u32
-        ensures { (s : State) → Shows s self.entry → Writes (emit (report_bytes s) [] out.old) result written.new out.new }
+    // Writes the report and gives the number of bytes, or a refusal where `out` is too short.
+    fn emit(self, out: &mut [u8]) -> Result<u32, Refusal>
+        ensures { (s : State) → Shows s self.entry → Writes (emit (report_bytes s) [] out.old) (number result) (counted result) out.new }
     {
-        *written = 0;
         if out.len() < self.length() {
-            return 13;
+            return Err(Refusal::TooShort);
         }
         let count = self.write(out);
-        *written = count as u32;
-        0
+        Ok(count as u32)
     }
 }
 
-// Writes the report of a state with `m` entries: 13 where `out` is too short. `written` is the number of bytes written, 0 on a
-// refusal. `met`, `numbers` and `head` are scratch.
+// Writes the report of a state with `m` entries and gives the number of bytes, or a refusal where `out` is too short. `met`, `numbers`
+// and `head` are scratch.
 pub fn report(
     names: &[u32],
     lines: &[u32],
@@ -162,12 +163,11 @@ pub fn report(
     numbers: &mut [u32],
     head: &mut [u32],
     out: &mut [u8],
-    written: &mut u32,
-) -> u32
+) -> Result<u32, Refusal>
     requires state { GivenState (λ s. Told s names.now lines.now entries.now × (m ≡ length s.entries)) }
     requires room { NumberRoom m met.old numbers.old × (length lines.now + 2 ≤ length head.old) }
     ensures { (s : State) → Told s names.now lines.now entries.now → m ≡ length s.entries
-        → Writes (emit (report_bytes s) [] out.old) result written.new out.new }
+        → Writes (emit (report_bytes s) [] out.old) (number result) (counted result) out.new }
 {
     let count = crate::numbering::number_classes(lines, entries, m, met, numbers);
     number_lines(lines, entries, numbers, count, head);
@@ -178,5 +178,5 @@ pub fn report(
         numbers,
         head: &head[..lines.len() + 2],
     };
-    source.emit(out, written)
+    source.emit(out)
 }

@@ -8,8 +8,8 @@ use Rattle.report.proofs.write.Source.emit.Goals as goal
 pub returns-then-out-length : goal.returns-then-out-length
 returns-then-out-length c = λ s shows. emit_short _ _ _ (rw (c.length.ensures s shows) at c.if-out-length.true)
 
-pub overflow_cast-written : goal.overflow_cast-written
-overflow_cast-written c =
+pub overflow_cast-result : goal.overflow_cast-result
+overflow_cast-result c =
     omega (arith, given_le c.args.self c.write-count.result 100000 (λ s shows. omega (arith, report-few shows.0.tabled, (c.write-count.ensures s shows).0)))
 
 pub returns : goal.returns

@@ -105,10 +105,6 @@ walking_none rows roots names entries lefts rights cells capacity m =
 
 module _ {rows roots names entries₀ lefts₀ rights₀ cells₀ : List ℕ} {capacity m : ℕ} {entries lefts rights cells : List ℕ} {w : Answer} {i : ℕ}
     (h : Walking rows roots names entries₀ lefts₀ rights₀ cells₀ capacity m entries lefts rights cells w i) where
-  -- the table is within the capacity
-  pub count-few : GivenTable (ToWalk rows roots names entries₀ lefts₀ rights₀ cells₀ capacity m) → w.count ≤ capacity
-  count-few g = few-entries (h.so_far _ _ _ g.known).stands
-
   module _ (l : i < w.count) where
     -- what the next visit asks
     to_visit : (b : Book) (β : Bindings) (es : Table) → ToWalk rows roots names entries₀ lefts₀ rights₀ cells₀ capacity m b β es

@@ -5,7 +5,7 @@ use Prim.Native.Nat.{ℕ, ◌+◌, ◌*◌, ◌≤◌, ◌<◌}
 use native.Mathlib.Numerals.{add-one}
 use native.Mathlib.Omega.{arith}
 use lib.ListN.{length, take, drop, set, replicate, length-drop, take-append-drop}
-use lib.Seq.{take_all, take-suc, length-take-le, get_or-take, get_or-drop}
+use lib.Seq.{take-suc, length-take-le, get_or-take, get_or-drop}
 use Rattle.model.specs.Limits.{max_arity}
 use Rattle.model.specs.Lists.{pairwise, padded}
 use Rattle.model.specs.Term.{Book, Bindings}
@@ -17,11 +17,10 @@ use Rattle.layout.specs.limits.Rows.{at}
 use Rattle.refusal.specs.declared.Refusal.{Refusal}
 use Rattle.table.specs.place.Stands.{Stands, IsFull, GivenTable, Whatever}
 use Rattle.table.specs.place.Placing.{ToPlace, Places}
-use Rattle.table.specs.visit.Visiting.{arguments_at, ToPlaceAll, PlacesAll}
+use Rattle.table.specs.visit.Visiting.{arguments_at, ToPlaceAll}
 use Rattle.table.specs.declared.place.Placed.{Placed}
 use Rattle.table.proofs.visit.Lists.{pairwise_append, place_all-append, pairwise-alike, padded-set}
 use Rattle.table.proofs.visit.Sizes.{SameSizes, same-sizes, sizes_trans}
-use Rattle.table.proofs.place.Placing.{stands-reaches}
 
 -- the words behind the count in the row of a term
 module _ (rows : List ℕ) (t : ℕ) (fits : term_words * t + 2 + at rows (term_words * t + 1) ≤ length rows) where
@@ -169,15 +168,3 @@ module _ {names entries₀ lefts₀ rights₀ cells₀ : List ℕ} {capacity m :
       pub placing_more : SameSizes entries lefts rights cells entries' lefts' rights' cells'
           → PlacingAll names entries₀ lefts₀ rights₀ cells₀ capacity m ls rs entries' lefts' rights' cells' (set numbers j p.entry) p.count (j + 1)
       placing_more sizes = record { sizes = sizes_trans i.sizes sizes; within = omega arith; so_far = placed_to }
-
-  -- all are placed
-  pub placing_all : length ls ≤ j → Whatever (ToPlaceAll names entries₀ lefts₀ rights₀ cells₀ capacity m ls rs)
-      (PlacesAll entries lefts rights cells capacity ls rs (record { entries = numbers; count = count }))
-  placing_all l b β es q =
-      let so = i.so_far b β es q in
-      let all-ls : take j ls ≡ ls = take_all j ls l in
-      let all-rs : take j rs ≡ rs = take_all j rs (omega (arith, q.pairs)) in
-      record {
-        reaches = rw (all-ls, all-rs) at (stands-reaches so.stands);
-        their_entries = rw (all-ls, all-rs) at so.their_entries;
-      }

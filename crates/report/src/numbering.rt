@@ -2,11 +2,11 @@
 // (specs/numbering/Numbering.antt).
 
 ghost use Rattle.std.specs.Prelude.{◌≡◌, [], ◌∷◌, ◌++◌, map, ℕ, ◌+◌, ◌*◌, ◌≤◌, ◌<◌, length, get_or, drop};
+ghost use Rattle.std.proofs.Props.{props};
 ghost use Rattle.model.specs.Area.{entry_row_words};
 ghost use Rattle.model.specs.Report.{class, argument_classes};
 ghost use Rattle.layout.specs.limits.Rows.{loaded_entry, table_of};
-ghost use Rattle.report.specs.numbering.Numbering.{Entries, Closed, Marked, new_number, NumberRoom, Numbered};
-ghost use Rattle.report.specs.numbering.Classes.{Sound, Meets};
+ghost use Rattle.report.specs.numbering.Numbering.{Entries, Closed, Marked, new_number, NumberRoom, MetSoFar, Numbered};
 
 // The class of the entry in row `i`.
 fn class_at(entries: &[u32], i: usize) -> u32
@@ -17,7 +17,7 @@ fn class_at(entries: &[u32], i: usize) -> u32
 }
 
 // The classes that are met of the table in the first `m` rows: the first `count` words of `met` are those so far, and `numbers` has for
-// each class its number plus 1, or 0. No ghost field says so, since it does not hold between the writes of `meet`.
+// each class its number plus 1, or 0.
 #[derive(Drop)]
 struct Classes<'a> {
     entries: &'a [u32],
@@ -25,28 +25,31 @@ struct Classes<'a> {
     met: &'a mut [u32],
     numbers: &'a mut [u32],
     count: usize,
+    ghost closed: { Closed entries.now m } by { Prim.hlevel props },
+    ghost sound: { MetSoFar m met.now numbers.now count } by { Prim.hlevel props },
 }
 
 impl<'a> Classes<'a> {
+    ghost use Rattle.report.specs.numbering.Classes.{Meets};
+
     // Meets class `x`: it gets the next number unless it has one.
     fn meet(&mut self, x: u32)
-        requires sound { Sound self.old }
-        requires x_lt_m { x < self.old.m }
+        requires { x < self.old.m }
         ensures { Meets self.old (x ∷ []) self.new }
     {
         let place = x as usize;
         if self.numbers[place] != 0 {
             return;
         }
+        let next = self.count + 1;
         self.met[self.count] = x;
-        self.count += 1;
-        self.numbers[place] = self.count as u32;
+        self.numbers[place] = next as u32;
+        self.count = next;
     }
 
     // Meets the classes of the entries `items`, one after the other.
     fn meet_all(&mut self, items: &[u32])
-        requires closed { Closed self.old.entries.now self.old.m × Entries self.old.m items.now }
-        requires sound { Sound self.old }
+        requires { Entries self.old.m items.now }
         ensures { Meets self.old (map (class (table_of self.old.entries.now self.old.m)) items.now) self.new }
     {
         for i in items {
@@ -57,8 +60,7 @@ impl<'a> Classes<'a> {
 
     // Meets the classes of the arguments of entry `i`.
     fn meet_arguments(&mut self, i: usize)
-        requires closed { Closed self.old.entries.now self.old.m × (i < self.old.m) }
-        requires sound { Sound self.old }
+        requires { i < self.old.m }
         ensures { Meets self.old (argument_classes (table_of self.old.entries.now self.old.m) i) self.new }
     {
         let e = layout::entry::entry_at(self.entries, i);

@@ -1,11 +1,7 @@
 -- Classes that are met, as the code holds them. Assumes nothing: these are definitions.
 use Rattle.std.specs.Prelude.{◌≡◌, List, ℕ}
 use Rattle.report.specs.declared.numbering.Classes.{Classes}
-use Rattle.report.specs.numbering.Numbering.{MetSoFar, MetAll}
-
--- The words and the marks are those of the classes so far.
-abbrev pub Sound : Classes → Type 0
-Sound a = MetSoFar a.m a.met.now a.numbers.now a.count
+use Rattle.report.specs.numbering.Numbering.{MetAll}
 
 -- From a to b by meeting the classes xs, in the same table and the same slices.
 abbrev pub Meets : Classes → List ℕ → Classes → Type 0

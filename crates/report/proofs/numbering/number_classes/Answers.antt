@@ -4,18 +4,22 @@ use Rattle.std.proofs.Common.{◌∙◌, refl, sym, rules}
 use Rattle.report.proofs.numbering.Whole.{cleared, reached_lines, number-class, reached_more, reached_all, numbered_now}
 use Rattle.report.proofs.numbering.number_classes.Goals as goal
 
-pub meet_all-requires-clause-sound : goal.meet_all-requires-clause-sound
-meet_all-requires-clause-sound c = cleared c.clear.new.words c.requires.number_room c.clear.ensures c.clear.auto.words
+pub invariant_of-classes : goal.invariant_of-classes
+invariant_of-classes c =
+    record {
+      closed = c.requires.closed.0;
+      sound = cleared c.clear.new.words c.requires.number_room c.clear.ensures c.clear.auto.words;
+    }
 
 pub loop-i-init : goal.loop-i-init
 loop-i-init c =
     let met = c.meet_all.ensures in
     (reached_lines met.0, met.1, rw met.2, refl, refl)
 
-pub meet_arguments-requires-clause-closed : goal.meet_arguments-requires-clause-closed
-meet_arguments-requires-clause-closed c =
+pub meet_arguments-requires : goal.meet_arguments-requires
+meet_arguments-requires c =
     let h = c.loop-i.invariant in
-    rw (h.1, h.2) (c.requires.closed.0, number-class h.0 c.loop-i-test.true)
+    rw h.1 (number-class h.0 c.loop-i-test.true)
 
 pub loop-i-preserved : goal.loop-i-preserved
 loop-i-preserved c =

@@ -4,13 +4,20 @@ use Rattle.report.proofs.numbering.Meeting.{meet-old, meet-room, meet-new}
 use Rattle.report.proofs.numbering.Classes.meet.Goals as goal
 
 pub returns-then-self-place-ne0 : goal.returns-then-self-place-ne0
-returns-then-self-place-ne0 c = (meet-old c.requires.sound _ c.requires.x_lt_m c.if-self-place-ne0.true, refl, refl, refl, refl)
+returns-then-self-place-ne0 c = (meet-old c.args.self.now.sound _ c.requires c.if-self-place-ne0.true, refl, refl, refl, refl)
 
 pub bounds-self-self : goal.bounds-self-self
-bounds-self-self c = omega (arith, meet-room c.requires.sound _ c.requires.x_lt_m c.if-self-place-ne0.false)
+bounds-self-self c = omega (arith, meet-room c.args.self.now.sound _ c.requires c.if-self-place-ne0.false)
 
 pub overflow_cast-self : goal.overflow_cast-self
-overflow_cast-self c = omega (arith, meet-room c.requires.sound _ c.requires.x_lt_m c.if-self-place-ne0.false)
+overflow_cast-self c = omega (arith, meet-room c.args.self.now.sound _ c.requires c.if-self-place-ne0.false)
+
+pub invariant_of-self-2 : goal.invariant_of-self-2
+invariant_of-self-2 c =
+    record {
+      closed = c.args.self.now.closed;
+      sound = (meet-new c.args.self.now.sound _ c.requires c.if-self-place-ne0.false).counted;
+    }
 
 pub returns : goal.returns
-returns c = (meet-new c.requires.sound _ c.requires.x_lt_m c.if-self-place-ne0.false, refl, refl, refl, refl)
+returns c = (meet-new c.args.self.now.sound _ c.requires c.if-self-place-ne0.false, refl, refl, refl, refl)

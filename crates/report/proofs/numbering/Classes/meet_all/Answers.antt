@@ -3,16 +3,15 @@ use Rattle.report.proofs.numbering.Items.{meets_none, item_row, item_class, item
 use Rattle.report.proofs.numbering.Classes.meet_all.Goals as goal
 
 pub loop-i-init : goal.loop-i-init
-loop-i-init c = meets_none c.args.self.now c.requires.sound
+loop-i-init c = meets_none c.args.self.now
 
 pub class_at-x-requires : goal.class_at-x-requires
-class_at-x-requires c = item_row c.args.self.now c.loop-i.self _ c.requires.closed _ c.loop-i-test.true c.loop-i.invariant
+class_at-x-requires c = item_row c.args.self.now c.loop-i.self _ c.requires _ c.loop-i-test.true c.loop-i.invariant
 
-pub meet-requires-clause-x_lt_m : goal.meet-requires-clause-x_lt_m
-meet-requires-clause-x_lt_m c =
-    item_class c.args.self.now c.loop-i.self _ c.requires.closed _ c.loop-i-test.true c.loop-i.invariant _ c.class_at-x.ensures
+pub meet-requires : goal.meet-requires
+meet-requires c = item_class c.args.self.now c.loop-i.self _ c.requires _ c.loop-i-test.true c.loop-i.invariant _ c.class_at-x.ensures
 
 pub loop-i-preserved : goal.loop-i-preserved
 loop-i-preserved c =
-    items_more c.args.self.now c.loop-i.self _ c.requires.closed _ c.loop-i-test.true c.loop-i.invariant _ c.class_at-x.ensures
+    items_more c.args.self.now c.loop-i.self _ c.requires _ c.loop-i-test.true c.loop-i.invariant _ c.class_at-x.ensures
     c.meet.new.self c.meet.ensures

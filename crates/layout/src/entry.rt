@@ -18,7 +18,7 @@ pub struct Entry {
     pub same_as: u32,
 }
 
-// The entry whose words these are.
+// The entry whose words these are. Not a `From`: it asks for a row's length, which `entry_at` has, and refuses nothing.
 fn entry_of(row: &[u32]) -> Entry
     requires { length row.now ≡ entry_row_words }
     ensures { row_of result ≡ row.now }

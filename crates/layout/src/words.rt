@@ -1,4 +1,5 @@
-// Bytes as words of four bytes, lowest byte first, and back (specs/words/Words.antt).
+// Bytes as words of four bytes, lowest byte first, and back (specs/words/Words.antt). A place goes beside its area: the clauses name it
+// (`words_at`, `laid`, `cleared`).
 
 ghost use Rattle.std.specs.Prelude.{◌≡◌, ◌+◌, ◌*◌, ◌≤◌, length, take, drop};
 ghost use Rattle.std.proofs.lemmas.List.Edits.{sets};

@@ -7,9 +7,47 @@
 ghost use Rattle.std.specs.Prelude.{◌≡◌, suc};
 ghost use Rattle.pairs.specs.Pairs.{place_of};
 ghost use Rattle.pairs.specs.Index.{hash_of, Room, Indexed, Searched, Pushed};
+ghost use Rattle.pairs.specs.Lent.{SameSlices, RoomIn, IndexedIn, PushedIn};
 
 // The number of buckets.
 pub const BUCKETS: usize = 4096;
+
+// The slices of an index. How many pairs they hold is said at each call: to a table's entries it is their number.
+#[derive(Drop)]
+pub struct Index<'a> {
+    pub lefts: &'a mut [u32],
+    pub rights: &'a mut [u32],
+    pub cells: &'a mut [u32],
+}
+
+impl Index<'_> {
+    // The first place of (a, b) among the first `count` pairs, or else `count`.
+    pub fn find(&self, count: usize, a: u32, b: u32) -> usize
+        requires { IndexedIn self.now count }
+        ensures { result ≡ place_of self.now.lefts.now self.now.rights.now count a b }
+    {
+        search(self.lefts, self.rights, self.cells, count, a, b).place
+    }
+
+    // Puts (a, b) at place `count`, and answers its first place: an older one, or else `count`, to which a link goes then.
+    pub fn push(&mut self, count: usize, a: u32, b: u32) -> usize
+        requires indexed { IndexedIn self.old count }
+        requires room { RoomIn self.old (suc count) }
+        ensures pushed { PushedIn self.old self.new count a b result }
+        ensures same_slices { SameSlices self.old self.new }
+    {
+        push(self.lefts, self.rights, self.cells, count, a, b)
+    }
+
+    // Forgets all pairs.
+    pub fn clear(&mut self)
+        requires { RoomIn self.old 0 }
+        ensures indexed { IndexedIn self.new 0 }
+        ensures same_slices { SameSlices self.old self.new }
+    {
+        layout::clearing::clear(self.cells, BUCKETS);
+    }
+}
 
 // What a search gives: a place, and the cell at which it ended.
 #[derive(Clone, Copy)]

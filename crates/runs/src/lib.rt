@@ -1,6 +1,7 @@
 #![tactic(auto)]
 
-// Numbers as bytes, one after the other: their length, and writing them to a slice of bytes (specs/Runs.antt).
+// Numbers as bytes, one after the other: their length, and writing them to a slice of bytes (specs/Runs.antt). The place to write at goes
+// beside the output: the clauses name it (`over_at`).
 
 ghost use Rattle.std.specs.Prelude.{◌≡◌, ◌+◌, ◌≤◌, length, take, drop};
 ghost use Rattle.leb128.specs.Number.{max_groups, max_number, write};

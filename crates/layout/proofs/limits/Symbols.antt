@@ -1,13 +1,6 @@
 -- Two terms of one symbol and one count, by the first two words of their rows. Assumes nothing.
-use mathlib.Core.Path.{◌≡◌, refl, sym, ap}
-use mathlib.Core.List.{List}
-use mathlib.Core.Bool.{Bool, true, false, cond, ◌&&◌}
-use Prim.Native.Nat.{ℕ, ◌+◌, ◌*◌, ◌-◌, ◌≤◌}
-use native.Mathlib.Omega.{arith}
-use borrow.Author.Tests.{ne_eqb, eqb-true, eqb-false}
-use lib.ListN.{length, take, drop, length-drop}
-use lib.Seq.{length-take-le}
-use lib.Dec.{eqb, eqb→eq}
+use Rattle.std.proofs.Common.{◌≡◌, refl, sym, ap, List, Bool, true, false, cond, ◌&&◌, ℕ, ◌+◌, ◌*◌, ◌-◌, ◌≤◌, arith, ne_eqb, eqb-true, length, take, drop, length-drop, length-take-le, eqb, eqb→eq}
+use Rattle.std.proofs.lemmas.Bool.{eqb-false}
 use Rattle.model.specs.Term.{Node, var, app, alike}
 use Rattle.model.specs.Area.{term_words}
 use Rattle.theory.proofs.Lists.Laws.{true_T, same_test}

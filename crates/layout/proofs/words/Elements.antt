@@ -1,11 +1,5 @@
 -- A run of elements one by one, the word that four bytes make, and the four bytes of a word. Assumes nothing.
-use mathlib.Core.Path.{◌≡◌, sym}
-use mathlib.Core.List.{List, [], ◌∷◌, map}
-use Prim.Native.Nat.{ℕ, ◌+◌, ◌*◌, ◌/◌, ◌%◌, ◌≤◌}
-use native.Mathlib.Nat.{zero-add, add-zero}
-use native.Mathlib.Omega.{arith}
-use lib.ListN.{length, get_or, take, drop, length-drop}
-use lib.Seq.{length-take-le, get_or-take, get_or-drop}
+use Rattle.std.proofs.Common.{◌≡◌, sym, List, [], ◌∷◌, map, ℕ, ◌+◌, ◌*◌, ◌/◌, ◌%◌, ◌≤◌, zero-add, add-zero, arith, length, get_or, take, drop, length-drop, length-take-le, get_or-take, get_or-drop}
 use Rattle.model.specs.Lists.{from}
 use Rattle.model.specs.Area.{to_bytes, from_bytes}
 use Rattle.theory.proofs.Lists.Rows.{map-from}

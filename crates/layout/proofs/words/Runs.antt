@@ -1,12 +1,7 @@
 -- A run that grows by one: the words loaded, the words laid. And bytes cleared. Assumes nothing.
-use mathlib.Core.Path.{◌≡◌, refl, sym, ◌∙◌}
-use mathlib.Core.List.{List, [], ◌∷◌, ◌++◌, append_assoc, append-nil, map}
-use Prim.Native.Nat.{ℕ, zero, suc, ◌+◌, ◌*◌, ◌-◌, ◌≤◌, ◌<◌}
-use native.Mathlib.Nat.{add-zero, add-suc, suc-add}
-use native.Mathlib.Numerals.{add-one}
-use native.Mathlib.Omega.{arith}
-use lib.ListN.{length, get_or, take, drop, set, replicate, take-append-drop, length-append, length-drop, length-map}
-use lib.Seq.{sets, sets-eq, set_at, take_at, take-suc, drop-cons, drop-drop, append_snoc, length-take-le}
+use Rattle.std.proofs.Common.{◌≡◌, refl, sym, ◌∙◌, List, [], ◌∷◌, ◌++◌, append_assoc, append-nil, map, ℕ, zero, suc, ◌+◌, ◌*◌, ◌-◌, ◌≤◌, ◌<◌, add-zero, add-suc, suc-add, add-one, arith, length, get_or, take, drop, set, replicate, take-append-drop, length-append, length-drop, take_at, take-suc, drop-cons, drop-drop, length-take-le}
+use Rattle.std.proofs.Math.ListN.{length-map}
+use Rattle.std.proofs.Math.Seq.{sets, sets-eq, set_at, append_snoc}
 use Rattle.model.specs.Lists.{from, concat_map}
 use Rattle.model.specs.Area.{word_size, to_bytes, word, words_at}
 use Rattle.layout.specs.words.Words.{laid, cleared}

@@ -3,6 +3,7 @@
 
 ghost use Rattle.std.specs.Prelude.{◌≡◌, ◌+◌, ◌*◌, ◌≤◌, length};
 ghost use Rattle.model.specs.Term as Term;
+ghost use Rattle.model.specs.Limits.{office};
 ghost use Rattle.model.specs.Area.{term_words};
 ghost use Rattle.layout.specs.limits.Rows.{at, node_of};
 
@@ -21,12 +22,13 @@ pub const TERM_WORDS: usize = 2 + MAX_ARITY;
 
 pub const ENTRY_WORDS: usize = 6 + MAX_ARITY;
 
-// What limits an area: terms of a book, the largest capacity in entries, and lines.
+// What limits an area: terms of a book, the largest capacity in entries, and lines; none is above the office's.
 #[derive(Clone, Copy)]
 pub struct Limits {
     pub terms: usize,
     pub capacity: usize,
     pub lines: usize,
+    ghost modest: { (terms ≤ office.max_terms) × (capacity ≤ office.max_capacity) × (lines ≤ office.max_lines) },
 }
 
 // The office's limits.
@@ -52,13 +54,6 @@ pub fn alike(rows: &[u32], l: usize, r: usize) -> bool
     ensures { result ≡ Term.alike (node_of rows.now l) (node_of rows.now r) }
 {
     let left = TERM_WORDS * l;
-    let symbol = rows[left];
-    if symbol == 0 {
-        return false;
-    }
     let right = TERM_WORDS * r;
-    if symbol != rows[right] {
-        return false;
-    }
-    rows[left + 1] == rows[right + 1]
+    rows[left] != 0 && rows[left] == rows[right] && rows[left + 1] == rows[right + 1]
 }

@@ -11,8 +11,7 @@ use lib.Dec.{ltb}
 use lib.ListN.{length, get_or, drop, length-drop, drop_of_length-le}
 use lib.Seq.{drop-cons}
 use Rattle.leb128.specs.Number.{number, cut, invalid, write, prepend, read_groups, at_most}
-use Rattle.leb128.specs.Answer.{placed}
-use Rattle.leb128.specs.declared.Decoded.TheVariants.{Number}
+use Rattle.leb128.specs.Answer.{number_before, placed}
 
 -- A fact by cases on a test of two numbers.
 pub by_test : {A : Type 0} (a b : ℕ) → (a < b → A) → (b ≤ a → A) → A
@@ -81,7 +80,7 @@ module _ (k : ℕ) (s : List ℕ) (i : ℕ) where
   group_more h b = rw (add-one, drop-cons s i 0 h) (read_more k _ _ b)
 
 -- a number whose last byte stands at i ends at i + 1
-pub placed-next : (s : List ℕ) (i n : ℕ) → i < length s → placed (length s) (number n (drop (i + 1) s)) ≡ Number n (i + 1)
+pub placed-next : (s : List ℕ) (i n : ℕ) → i < length s → placed (length s) (number n (drop (i + 1) s)) ≡ number_before n (i + 1)
 unfolding placed
 placed-next s i n h =
     let e : length s - length (drop (i + 1) s) ≡ i + 1 = rw (length-drop (i + 1) s) (omega arith) in

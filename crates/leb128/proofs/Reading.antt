@@ -5,24 +5,26 @@ use Prim.Native.Nat.{ℕ, ◌+◌, ◌*◌, ◌-◌, ◌%◌, ◌≤◌, ◌<◌
 use native.Mathlib.Omega.{arith}
 use lib.ListN.{length, get_or, drop}
 use Rattle.leb128.specs.Number.{number, prepend, read_groups, at_most, read, max_groups, max_number}
-use Rattle.leb128.specs.Answer.{placed, read_at}
-use Rattle.leb128.specs.declared.Decoded.{Decoded}
-use Rattle.leb128.specs.declared.Decoded.TheVariants.{Number, Cut, Invalid}
+use Rattle.leb128.specs.Answer.{number_before, placed, read_at}
+use Rattle.std.specs.Prelude.{Result, Err}
+use Rattle.leb128.specs.declared.Number.{Number}
+use Rattle.leb128.specs.declared.NumberError.{NumberError}
+use Rattle.leb128.specs.declared.NumberError.TheVariants.{Cut, Invalid}
 use Rattle.leb128.proofs.Groups.{by_test, group_cut, group_last, group_more, prepend_zero, prepend-more, within, above, placed-next}
 
 -- The group at i, the last one, behind the groups x and y.
-abbrev pub third : List ℕ → ℕ → ℕ → ℕ → Decoded
+abbrev pub third : List ℕ → ℕ → ℕ → ℕ → Result Number NumberError
 third s i x y = placed (length s) (at_most max_number (prepend x (prepend y (read_groups 1 (drop i s)))))
 
 module _ (s : List ℕ) (i x y : ℕ) where
   -- past the end
-  pub third_cut : length s ≤ i → third s i x y ≡ Cut
+  pub third_cut : length s ≤ i → third s i x y ≡ Err Cut
   unfolding placed at_most prepend
   third_cut h = rw (group_cut 0 s i h)
 
   module _ (h : i < length s) where
     -- a third byte 0 is no shortest form
-    pub third_zero : get_or s i 0 ≡ 0 → third s i x y ≡ Invalid
+    pub third_zero : get_or s i 0 ≡ 0 → third s i x y ≡ Err Invalid
     unfolding placed at_most prepend
     third_zero e = rw (group_last 0 s i h (omega arith), prepend_zero y _ (drop (i + 1) s) e)
 
@@ -35,19 +37,19 @@ module _ (s : List ℕ) (i x y : ℕ) where
         rw (group_last 0 s i h b, prepend-more y _ (drop (i + 1) s) e, prepend-more x (y + 128 * z) (drop (i + 1) s) (omega arith), n)
 
     -- a third byte with 80 set is invalid
-    third_long : 128 ≤ get_or s i 0 → third s i x y ≡ Invalid
+    third_long : 128 ≤ get_or s i 0 → third s i x y ≡ Err Invalid
     unfolding placed at_most prepend read_groups
     third_long b = rw (group_more 0 s i h b)
 
     -- any number above the limit is
-    pub third_above : (get_or s i 0 ≡ 0 → ⊥) → max_number < x + 128 * y + 16384 * get_or s i 0 → third s i x y ≡ Invalid
+    pub third_above : (get_or s i 0 ≡ 0 → ⊥) → max_number < x + 128 * y + 16384 * get_or s i 0 → third s i x y ≡ Err Invalid
     unfolding placed
     third_above e m =
         by_test (get_or s i 0) 128 (λ b. rw (third_sum e b, above max_number _ (drop (i + 1) s) m)) (λ b. third_long b)
 
     -- one up to the limit is read
     pub third_number : (get_or s i 0 ≡ 0 → ⊥) → x + 128 * y + 16384 * get_or s i 0 ≤ max_number
-        → third s i x y ≡ Number (x + 128 * y + 16384 * get_or s i 0) (i + 1)
+        → third s i x y ≡ number_before (x + 128 * y + 16384 * get_or s i 0) (i + 1)
     third_number e m = rw (third_sum e (omega arith), within max_number _ (drop (i + 1) s) m) (placed-next s i _ h)
 
 -- the seven low bits of a byte with 80 set
@@ -56,31 +58,31 @@ low_bits x h b = omega arith
 
 module _ (s : List ℕ) (i : ℕ) where
   -- past the end
-  pub first-cut : length s ≤ i → read_at max_groups max_number s i ≡ Cut
+  pub first-cut : length s ≤ i → read_at max_groups max_number s i ≡ Err Cut
   unfolding read_at read placed at_most
   first-cut h = rw (group_cut 2 s i h)
 
   -- a number of one byte
-  pub first-number : i < length s → get_or s i 0 < 128 → read_at max_groups max_number s i ≡ Number (get_or s i 0) (i + 1)
+  pub first-number : i < length s → get_or s i 0 < 128 → read_at max_groups max_number s i ≡ number_before (get_or s i 0) (i + 1)
   unfolding read_at read
   first-number h b = rw (group_last 2 s i h b, within max_number (get_or s i 0) (drop (i + 1) s) (omega arith)) (placed-next s i _ h)
 
   module _ (h : i < length s) (b : 128 ≤ get_or s i 0) where
     -- the bytes end after the first
-    pub second_cut : length s ≤ i + 1 → read_at max_groups max_number s i ≡ Cut
+    pub second_cut : length s ≤ i + 1 → read_at max_groups max_number s i ≡ Err Cut
     unfolding read_at read placed at_most prepend
     second_cut e = rw (group_more 2 s i h b, group_cut 1 s (i + 1) e)
 
     module _ (g : i + 1 < length s) where
       -- a second byte 0 is no shortest form
-      pub second_zero : get_or s (i + 1) 0 ≡ 0 → read_at max_groups max_number s i ≡ Invalid
+      pub second_zero : get_or s (i + 1) 0 ≡ 0 → read_at max_groups max_number s i ≡ Err Invalid
       unfolding read_at read placed at_most
       second_zero e = rw (group_more 2 s i h b, group_last 1 s (i + 1) g (omega arith), prepend_zero _ _ (drop (i + 1 + 1) s) e)
 
       module _ (f : get_or s i 0 < 256) where
         -- a number of two bytes
         pub second_number : (get_or s (i + 1) 0 ≡ 0 → ⊥) → get_or s (i + 1) 0 < 128
-            → read_at max_groups max_number s i ≡ Number (get_or s i 0 % 128 + 128 * get_or s (i + 1) 0) (i + 1 + 1)
+            → read_at max_groups max_number s i ≡ number_before (get_or s i 0 % 128 + 128 * get_or s (i + 1) 0) (i + 1 + 1)
         unfolding read_at read
         second_number e d =
             rw (group_more 2 s i h b, group_last 1 s (i + 1) g d, prepend-more _ _ (drop (i + 1 + 1) s) e, low_bits _ b f)

@@ -81,13 +81,13 @@ module _ (room n : ℕ) where
 
 -- the contract, for a slice `out` that ends as `end`
 abbrev pub Wrote : List ℕ → ℕ → ℕ → List ℕ → Type 0
-Wrote out n count end =
-    (count ≡ length (write_within max_groups max_number (length out) n)) × (end ≡ write_within max_groups max_number (length out) n ++ drop count out)
+Wrote out n taken end =
+    record { count : taken ≡ length (write_within max_groups max_number (length out) n); bytes : end ≡ write_within max_groups max_number (length out) n ++ drop taken out }
 
 module _ (out : List ℕ) (n : ℕ) where
   -- nothing was to be written
   nothing : write_within max_groups max_number (length out) n ≡ [] → Wrote out n 0 out
-  nothing e = rw e (refl, refl)
+  nothing e = rw e (record { count = refl; bytes = refl })
 
   -- above the limit
   pub wrote_above : max_number < n → Wrote out n 0 out
@@ -102,4 +102,4 @@ module _ (out : List ℕ) (n : ℕ) where
     pub wrote_all : length bytes ≤ length out → Wrote out n (length bytes) (sets out 0 bytes)
     wrote_all s =
         let front : sets out 0 bytes ≡ bytes ++ drop (length bytes) out = rw (← zero-add (length bytes)) (sets-eq bytes out 0 (omega arith)) in
-        rw (all-written (length out) n h bytes w s) (refl, front)
+        rw (all-written (length out) n h bytes w s) (record { count = refl; bytes = front })

@@ -2,70 +2,78 @@
 
 // Numbers in groups of seven bits, lowest group first, in shortest form (specs/Number.antt).
 
-ghost use Rattle.std.specs.Prelude.{◌≡◌, ◌++◌, ◌<◌, length, drop};
+ghost use Rattle.std.specs.Prelude.{◌≡◌, ◌++◌, ◌<◌, ◌≤◌, length, drop, slice_index, MatchResult};
+ghost use Rattle.leb128.specs.declared.NumberError.TheVariants.{Cut};
 ghost use Rattle.leb128.specs.Number.{max_groups, max_number, write, write_within, read_groups, prepend, at_most};
 ghost use Rattle.leb128.specs.Answer.{read_at, placed, numbers, numbers_at};
 
-// What stands at a position: a number and the position after it, bytes that end too early, or no valid number.
-#[derive(Clone, Copy)]
-pub enum Decoded {
-    Number { value: u32, next: usize },
+// A number that was read, and the position after it.
+#[derive(Clone, Copy, Debug, PartialEq, Eq)]
+pub struct Number {
+    pub value: u32,
+    pub next: usize,
+}
+
+// Why no number stands at a position: the bytes end too early, or they are no number in shortest form up to the limit.
+#[derive(Clone, Copy, Debug, PartialEq, Eq)]
+pub enum NumberError {
     Cut,
     Invalid,
 }
 
-// Reads the third byte of a number, behind the groups `x` and `y`. Where it has 80 (hexadecimal) set, it makes the number
-// larger than the limit.
-fn read_third(s: &[u8], at: usize, x: u32, y: u32) -> Decoded
-    requires { (x < 128) × (y < 128) }
-    ensures { result ≡ placed (length s.now) (at_most max_number (prepend x (prepend y (read_groups 1 (drop at s.now))))) }
+// The byte at position `at`.
+fn byte_at(s: &[u8], at: usize) -> Result<u32, NumberError>
+    ensures { MatchResult result (λ x. (at < length s.now) × (x ≡ slice_index s.now at) × (x < 256)) (λ e. (length s.now ≤ at) × (e ≡ Cut)) }
 {
-    if s.len() <= at {
-        return Decoded::Cut;
-    }
-    let z = s[at] as u32;
-    let value = x + 128 * y + 16384 * z;
-    if z == 0 {
-        return Decoded::Invalid;
-    }
-    if 65535 < value {
-        return Decoded::Invalid;
-    }
-    Decoded::Number {
-        value,
-        next: at + 1,
+    match s.get(at) {
+        Some(byte) => Ok(u32::from(*byte)),
+        None => Err(NumberError::Cut),
     }
 }
 
+// Reads the third byte of a number, behind the groups `x` and `y`. Where it has 80 (hexadecimal) set, it makes the number
+// larger than the limit.
+fn read_third(s: &[u8], at: usize, x: u32, y: u32) -> Result<Number, NumberError>
+    requires { (x < 128) × (y < 128) }
+    ensures { result ≡ placed (length s.now) (at_most max_number (prepend x (prepend y (read_groups 1 (drop at s.now))))) }
+{
+    let z = byte_at(s, at)?;
+    let value = x + 128 * y + 16384 * z;
+    if z == 0 {
+        return Err(NumberError::Invalid);
+    }
+    if 65535 < value {
+        return Err(NumberError::Invalid);
+    }
+    Ok(Number {
+        value,
+        next: at + 1,
+    })
+}
+
 // Reads the number at position `at`, which may be any.
-pub fn read(s: &[u8], at: usize) -> Decoded
+pub fn read(s: &[u8], at: usize) -> Result<Number, NumberError>
     ensures answer { result ≡ read_at max_groups max_number s.now at }
     ensures numbers { numbers result ≡ numbers_at max_groups max_number s.now at }
 {
-    if s.len() <= at {
-        return Decoded::Cut;
-    }
-    let x = s[at] as u32;
+    let x = byte_at(s, at)?;
     let second = at + 1;
     if x < 128 {
-        return Decoded::Number {
+        return Ok(Number {
             value: x,
             next: second,
-        };
+        });
     }
-    if s.len() <= second {
-        return Decoded::Cut;
-    }
-    let y = s[second] as u32;
+    let y = byte_at(s, second)?;
     let third = second + 1;
     if y == 0 {
-        return Decoded::Invalid;
+        return Err(NumberError::Invalid);
     }
     if y < 128 {
-        return Decoded::Number {
+        return Ok(Number {
             value: x % 128 + 128 * y,
             next: third,
-        };
+        });
     }
     read_third(s, third, x % 128, y % 128)
 }

@@ -1,11 +1,10 @@
 // The classes of a table numbered afresh, in the order in which the lines and the arguments lead to them
 // (specs/numbering/Numbering.antt).
 
-ghost use Rattle.std.specs.Prelude.{◌≡◌, [], ◌∷◌, map, ℕ, ◌+◌, ◌*◌, ◌≤◌, ◌<◌, length, get_or};
+ghost use Rattle.std.specs.Prelude.{◌≡◌, [], ◌∷◌, ◌++◌, map, ℕ, ◌+◌, ◌*◌, ◌≤◌, ◌<◌, length, get_or, drop};
 ghost use Rattle.model.specs.Area.{entry_row_words};
 ghost use Rattle.model.specs.Report.{class, argument_classes};
 ghost use Rattle.layout.specs.limits.Rows.{loaded_entry, table_of};
-ghost use Rattle.runs.specs.Runs.{over_at};
 ghost use Rattle.report.specs.numbering.Numbering.{Entries, Closed, Marked, new_number, NumberRoom, MetSoFar, MetAll, Numbered};
 
 // The class of the entry in row `i`.
@@ -13,11 +12,12 @@ fn class_at(entries: &[u32], i: usize) -> u32
     requires { entry_row_words * i + entry_row_words ≤ length entries.now }
     ensures { result ≡ (loaded_entry entries.now i).same_as }
 {
-    let e = layout::entry::entry_at(entries, i);
-    e.same_as
+    layout::entry::entry_at(entries, i).same_as
 }
 
 // Meets class `x` of `m`: it gets the next number unless it has one. The answer is how many classes were met.
+// `met`, `numbers` and `count` are parameters here and below: a struct of them would be no plainer, since each contract on it would have
+// to say of two `&mut` that it keeps them (`self.new.met.ghost_name ≡ self.old.met.ghost_name`), and it could have no ghost field.
 fn meet(m: usize, met: &mut [u32], numbers: &mut [u32], count: usize, x: u32) -> usize
     requires met_so_far { MetSoFar m met.old numbers.old count }
     requires x_lt_m { x < m }
@@ -48,11 +48,9 @@ fn meet_all(
         met.new numbers.new result }
 {
     let mut n = count;
-    let mut j = 0;
-    while j < items.len() {
-        let x = class_at(entries, items[j] as usize);
+    for i in items {
+        let x = class_at(entries, *i as usize);
         n = meet(m, met, numbers, n, x);
-        j += 1;
     }
     n
 }
@@ -75,24 +73,26 @@ fn meet_arguments(
     if e.kind == 0 {
         return count;
     }
-    let end = e.count as usize;
     let arguments = e.arguments;
-    meet_all(&arguments[..end], entries, m, met, numbers, count)
+    meet_all(
+        &arguments[..e.count as usize],
+        entries,
+        m,
+        met,
+        numbers,
+        count,
+    )
 }
 
-// The new numbers of the entries `items`, by the marks, into `out` from place `at` on.
-pub fn renumber(items: &[u32], entries: &[u32], numbers: &[u32], out: &mut [u32], at: usize)
+// The new numbers of the entries `items`, by the marks, to the front of `out`.
+pub fn renumber(items: &[u32], entries: &[u32], numbers: &[u32], out: &mut [u32])
     requires by_index { (j : ℕ) → j < length items.now → Marked entries.now numbers.now (get_or items.now j 0) }
-    requires in_bounds { at + length items.now ≤ length out.old }
-    ensures { out.new ≡ over_at out.old at (map (new_number entries.now numbers.now) items.now) }
+    requires in_bounds { length items.now ≤ length out.old }
+    ensures { out.new ≡ map (new_number entries.now numbers.now) items.now ++ drop (length items.now) out.old }
 {
-    let mut next = at;
-    let mut j = 0;
-    while j < items.len() {
-        let x = class_at(entries, items[j] as usize) as usize;
-        out[next] = numbers[x] - 1;
-        next += 1;
-        j += 1;
+    for (j, i) in items.iter().enumerate() {
+        let x = class_at(entries, *i as usize) as usize;
+        out[j] = numbers[x] - 1;
     }
 }
 
@@ -113,6 +113,7 @@ pub fn number_classes(
     layout::clearing::clear(numbers, m);
     let mut count = meet_all(lines, entries, m, met, numbers, 0);
     let mut i = 0;
+    // `count` grows in the loop.
     while i < count {
         let x = met[i] as usize;
         count = meet_arguments(entries, m, x, met, numbers, count);

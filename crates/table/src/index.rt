@@ -18,12 +18,10 @@ pub fn index(
         (IsIndexed lefts.new rights.new cells.new m) }
 {
     layout::clearing::clear(cells, pairs::BUCKETS);
-    let mut i = 0;
-    while i < m {
+    for i in 0..m {
         let e = layout::entry::entry_at(entries, i);
         let left = names[e.left as usize];
         let right = names[e.right as usize];
         pairs::push(lefts, rights, cells, i, left, right);
-        i += 1;
     }
 }

@@ -7,16 +7,17 @@ ghost use Rattle.table.specs.place.Placing.{ToPlace, IsPlaced};
 
 use layout::entry::Entry;
 use layout::limits::MAX_ARITY;
+use refusal::Refusal;
 
-// The entry of a pair, the number of entries with it, and whether it would need more of them than the capacity.
+// The entry of a pair, and the number of entries with it.
 #[derive(Clone, Copy)]
 pub struct Placed {
     pub entry: u32,
     pub count: usize,
-    pub full: bool,
 }
 
-// Places the terms `l` and `r`: the lowest entry with their names, or else a hole at the next free number.
+// Places the terms `l` and `r`: the lowest entry with their names, or else a hole at the next free number; 11 where that is beyond
+// the capacity.
 pub fn place(
     names: &[u32],
     entries: &mut [u32],
@@ -27,7 +28,7 @@ pub fn place(
     lefts: &mut [u32],
     rights: &mut [u32],
     cells: &mut [u32],
-) -> Placed
+) -> Result<Placed, Refusal>
     requires { GivenTable (ToPlace names.now entries.old lefts.old rights.old cells.old capacity m l r) }
     ensures { Whatever (ToPlace names.now entries.old lefts.old rights.old cells.old capacity m l r)
         (IsPlaced entries.new lefts.new rights.new cells.new capacity l r result) }
@@ -36,18 +37,13 @@ pub fn place(
     let right = names[r as usize];
     let found = pairs::find(lefts, rights, cells, m, left, right);
     if found < m {
-        return Placed {
+        return Ok(Placed {
             entry: found as u32,
             count: m,
-            full: false,
-        };
+        });
     }
     if capacity <= m {
-        return Placed {
-            entry: 0,
-            count: m,
-            full: true,
-        };
+        return Err(Refusal::Full);
     }
     let hole = Entry {
         left: l,
@@ -60,9 +56,8 @@ pub fn place(
     };
     layout::entry::put_entry(entries, m, hole);
     pairs::push(lefts, rights, cells, m, left, right);
-    Placed {
+    Ok(Placed {
         entry: m as u32,
         count: m + 1,
-        full: false,
-    }
+    })
 }

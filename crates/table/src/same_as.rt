@@ -11,12 +11,10 @@ pub fn settle(entries: &mut [u32], m: usize, lefts: &[u32], rights: &[u32], cell
     ensures { Whatever (ToSettle entries.old lefts.now rights.now cells.now m)
         (λ b β es. HoldsTable entries.new (settle b β es)) }
 {
-    let mut i = 0;
-    while i < m {
+    for i in 0..m {
         let found = pairs::find(lefts, rights, cells, m, lefts[i], rights[i]);
         let mut e = layout::entry::entry_at(entries, i);
         e.same_as = found as u32;
         layout::entry::put_entry(entries, i, e);
-        i += 1;
     }
 }

@@ -30,8 +30,8 @@ fn application_hash(symbol: u32, args: &[u32], classes: &[u32]) -> u64
     ensures { result ≡ hash_from symbol (map (at classes.now) args.now) }
 {
     let mut h = u64::from(symbol);
-    for a in args {
-        h = mix(h, classes[*a as usize]);
+    for &a in args {
+        h = mix(h, classes[a as usize]);
     }
     h
 }
@@ -57,8 +57,8 @@ fn same_classes(args: &[u32], others: &[u32], classes: &[u32]) -> bool
     if args.len() != others.len() {
         return false;
     }
-    for (a, o) in args.iter().zip(others) {
-        if classes[*a as usize] != classes[*o as usize] {
+    for (&a, &o) in args.iter().zip(others) {
+        if classes[a as usize] != classes[o as usize] {
             return false;
         }
     }
@@ -85,10 +85,11 @@ fn search_keys(rows: &[u32], classes: &[u32], list: &[u32], k: usize, t: u32) ->
 {
     list[..k]
         .iter()
-        .position(|u| same_key(rows, classes, t, *u))
+        .position(|&u| same_key(rows, classes, t, u))
 }
 
-// The same, where `place` is the only place to look at if the hash of no other key is that of `t`, or `k` if that of none is.
+// The same, where `place` is the only place to look at if the hash of no other key is that of `t`, or `k` if that of none is (what
+// `pairs::push` answers).
 fn earlier(
     rows: &[u32],
     classes: &[u32],
@@ -153,12 +154,12 @@ fn classify(
     ensures { SameClasses (book_of rows.now n) (bound_of bindings.now n) classes.new n }
 {
     layout::clearing::clear(cells, pairs::BUCKETS);
-    for (k, t) in list[..n as usize].iter().enumerate() {
-        let h = key_hash(rows, classes, *t);
+    for (k, &t) in list[..n as usize].iter().enumerate() {
+        let h = key_hash(rows, classes, t);
         let high = (h / 4294967296) as u32;
         let low = (h % 4294967296) as u32;
         let place = pairs::push(lefts, rights, cells, k, high, low);
-        classes[*t as usize] = class_of(rows, bindings, n, classes, list, k, place);
+        classes[t as usize] = class_of(rows, bindings, n, classes, list, k, place);
     }
 }
 

@@ -29,8 +29,8 @@ pub fn roots(rows: &[u32], bindings: &[u32], n: u32, list: &[u32], roots: &mut [
     requires { Listed rows.now bindings.now list.now n × (n ≤ length roots.old) }
     ensures { roots.new ≡ map (deref (book_of rows.now n) (bound_of bindings.now n) n) (from 0 n) ++ drop n roots.old }
 {
-    for t in &list[..n as usize] {
-        roots[*t as usize] = root_of(rows, bindings, roots, *t);
+    for &t in &list[..n as usize] {
+        roots[t as usize] = root_of(rows, bindings, roots, t);
     }
 }
 
@@ -39,7 +39,7 @@ fn any_flagged(args: &[u32], flags: &[u32]) -> bool
     requires { (j : ℕ) → j < length args.now → at args.now j < length flags.now }
     ensures { result ≡ any (flagged flags.now) args.now }
 {
-    args.iter().any(|a| flags[*a as usize] != 0)
+    args.iter().any(|&a| flags[a as usize] != 0)
 }
 
 // Whether `v` occurs in the value of term `t`, where `flags` says it of the terms one step down.
@@ -56,8 +56,8 @@ fn occurs_step(rows: &[u32], bindings: &[u32], flags: &[u32], v: u32, t: u32) ->
     }
 }
 
-// Whether the variable `v` occurs in the value of term `t`: flags along the list, up to that term's own. `flags` is scratch of words,
-// so a flag is a word, 1 or 0.
+// Whether the variable `v` occurs in the value of term `t`: flags along the list, up to that term's own. A flag is a word, 1 or 0,
+// since `flags` is lent scratch of words.
 pub fn occurs_in(
     rows: &[u32],
     bindings: &[u32],
@@ -71,12 +71,12 @@ pub fn occurs_in(
     requires t_lt_n { t < n }
     ensures { result ≡ occurs v (val (book_of rows.now n) (bound_of bindings.now n) t) }
 {
-    for u in &list[..n as usize] {
-        let stands = occurs_step(rows, bindings, flags, v, *u);
-        if *u == t {
+    for &u in &list[..n as usize] {
+        let stands = occurs_step(rows, bindings, flags, v, u);
+        if u == t {
             return stands;
         }
-        flags[*u as usize] = u32::from(stands);
+        flags[u as usize] = u32::from(stands);
     }
     flags[t as usize] != 0
 }

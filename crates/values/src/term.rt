@@ -27,7 +27,7 @@ pub fn arguments(rows: &[u32], t: u32) -> &[u32]
     &rows[first..first + rows[row + 1] as usize]
 }
 
-// The term that variable `t` is bound to.
+// The term that variable `t` is bound to, or none where it is free.
 pub fn bound(bindings: &[u32], t: u32) -> Option<u32>
     requires { t < length bindings.now }
     ensures { MatchOption result

@@ -3,6 +3,7 @@
 
 ghost use Rattle.std.specs.Prelude.{◌≡◌, ◌+◌, ◌*◌, ◌≤◌, length};
 ghost use Rattle.model.specs.Term as Term;
+ghost use Rattle.model.specs.Limits.{office};
 ghost use Rattle.model.specs.Area.{term_words};
 ghost use Rattle.layout.specs.limits.Rows.{at, node_of};
 
@@ -21,12 +22,13 @@ pub const TERM_WORDS: usize = 2 + MAX_ARITY;
 
 pub const ENTRY_WORDS: usize = 6 + MAX_ARITY;
 
-// What limits an area: terms of a book, the largest capacity in entries, and lines.
+// What limits an area: terms of a book, the largest capacity in entries, and lines; none is above the office's.
 #[derive(Clone, Copy)]
 pub struct Limits {
     pub terms: usize,
     pub capacity: usize,
     pub lines: usize,
+    ghost modest: { (terms ≤ office.max_terms) × (capacity ≤ office.max_capacity) × (lines ≤ office.max_lines) },
 }
 
 // The office's limits.

@@ -36,7 +36,12 @@ pub fn encode(rows: &[u32], terms: usize, out: &mut [u8]) -> usize
 }
 
 // Writes the book in the first `terms` rows, which takes `bytes` bytes, and gives their number: 13 where `out` is too short.
-pub fn write_measured(rows: &[u32], terms: usize, bytes: usize, out: &mut [u8]) -> Result<u32, Refusal>
+pub fn write_measured(
+    rows: &[u32],
+    terms: usize,
+    bytes: usize,
+    out: &mut [u8],
+) -> Result<u32, Refusal>
     requires { T (encodable rows.now terms) × (length (book_bytes (book_of rows.now terms)) ≤ 4294967295) × (bytes ≡ length (book_bytes (book_of rows.now terms))) }
     ensures { Writes (emit (book_bytes (book_of rows.now terms)) [] out.old) (number result) (counted result) out.new }
 {

@@ -13,7 +13,6 @@ use Rattle.model.specs.Lists.{is_empty}
 use Rattle.model.specs.Term.{Book}
 use Rattle.model.specs.BookBytes.{parsed, unparsed, and_then, need, parse_terms, parse_written, parse_book}
 use Rattle.theory.proofs.Book.Written.{none_written, some_written}
-use Rattle.theory.proofs.Book.Opening.{book_positive}
 use Rattle.std.specs.Prelude.{Result, Ok, Err, OnOk}
 use Rattle.refusal.specs.declared.Refusal.{Refusal}
 use Rattle.refusal.specs.declared.Refusal.TheVariants.{LeftOver}

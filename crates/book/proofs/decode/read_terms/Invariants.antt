@@ -1,5 +1,5 @@
 -- What holds after `t` terms.
-use Rattle.std.proofs.Common.{◌≡◌, length}
+use Rattle.std.proofs.Common.{length}
 use Rattle.book.proofs.decode.Book.{Read}
 use Rattle.book.proofs.decode.read_terms.Given as goal
 

@@ -21,10 +21,10 @@ start_at next = record { next = next; first = 0; count = 0 }
 unfoldable pub head_read : List ℕ → Position → Parsed (ℕ × ℕ)
 head_read bytes p = parsed (p.first, p.count) (drop p.next bytes)
 
--- An answer as an outcome: what follows of what was read, or the refusal.
-unfoldable pub outcome : {A B : Type 0} → Result A Refusal → (A → Parsed B) → Parsed B
-outcome (Ok a) then = then a
-outcome (Err e) then = unparsed (number_of e)
+-- By an answer: what was read, and the bytes that follow, or the refusal.
+unfoldable pub outcome : {A B : Type 0} → Result A Refusal → List ℕ → B → Parsed B
+outcome (Ok a) rest b = parsed b rest
+outcome (Err e) rest b = unparsed (number_of e)
 
 -- ---- a term, part by part
 

@@ -6,6 +6,7 @@ ghost use Rattle.model.specs.Area.{entry_row_words};
 ghost use Rattle.layout.specs.entry.Row.{row_of};
 
 // An entry: its pair of terms, kind (0 hole, 1 common), symbol, argument count, argument entries, and same-as.
+// The kind is a number: `entry_at` reads a row of any words, and `row_of` gives back the same (clauses of both).
 #[derive(Clone, Copy)]
 pub struct Entry {
     pub left: u32,
@@ -17,7 +18,7 @@ pub struct Entry {
     pub same_as: u32,
 }
 
-// The entry whose words these are.
+// The entry whose words these are. Not a `From`: it asks for a row's length, which `entry_at` has, and refuses nothing.
 fn entry_of(row: &[u32]) -> Entry
     requires { length row.now ≡ entry_row_words }
     ensures { row_of result ≡ row.now }
@@ -41,8 +42,7 @@ pub fn entry_at(entries: &[u32], i: usize) -> Entry
     ensures { row_of result ≡ take entry_row_words (drop (entry_row_words * i) entries.now) }
 {
     let at = crate::limits::ENTRY_WORDS * i;
-    let end = at + crate::limits::ENTRY_WORDS;
-    entry_of(&entries[at..end])
+    entry_of(&entries[at..at + crate::limits::ENTRY_WORDS])
 }
 
 // The words of an entry.
@@ -56,23 +56,11 @@ pub fn row_of(e: Entry) -> [u32; crate::limits::ENTRY_WORDS]
     ]
 }
 
-// Puts the words at place `at`.
-fn put_words(entries: &mut [u32], at: usize, words: &[u32])
-    requires { at + length words.now ≤ length entries.old }
-    ensures { entries.new ≡ paste entries.old at words.now (length words.now) }
-{
-    let mut i = 0;
-    while i < words.len() {
-        entries[at + i] = words[i];
-        i += 1;
-    }
-}
-
 // Puts the entry into row `i`.
 pub fn put_entry(entries: &mut [u32], i: usize, e: Entry)
     requires { entry_row_words * i + entry_row_words ≤ length entries.old }
     ensures { entries.new ≡ paste entries.old (entry_row_words * i) (row_of e) entry_row_words }
 {
-    let row = row_of(e);
-    put_words(entries, crate::limits::ENTRY_WORDS * i, &row);
+    let start = crate::limits::ENTRY_WORDS * i;
+    entries[start..start + crate::limits::ENTRY_WORDS].copy_from_slice(&row_of(e));
 }

@@ -54,13 +54,6 @@ pub fn alike(rows: &[u32], l: usize, r: usize) -> bool
     ensures { result ≡ Term.alike (node_of rows.now l) (node_of rows.now r) }
 {
     let left = TERM_WORDS * l;
-    let symbol = rows[left];
-    if symbol == 0 {
-        return false;
-    }
     let right = TERM_WORDS * r;
-    if symbol != rows[right] {
-        return false;
-    }
-    rows[left + 1] == rows[right + 1]
+    rows[left] != 0 && rows[left] == rows[right] && rows[left + 1] == rows[right + 1]
 }

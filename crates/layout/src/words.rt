@@ -1,4 +1,5 @@
-// Bytes as words of four bytes, lowest byte first, and back (specs/words/Words.antt).
+// Bytes as words of four bytes, lowest byte first, and back (specs/words/Words.antt). A place goes beside its area: the clauses name it
+// (`words_at`, `laid`, `cleared`).
 
 ghost use Rattle.std.specs.Prelude.{◌≡◌, ◌+◌, ◌*◌, ◌≤◌, length, take, drop};
 ghost use Rattle.std.proofs.lemmas.List.Edits.{sets};
@@ -10,11 +11,7 @@ pub fn word_at(area: &[u8], at: usize) -> u32
     requires { at + word_size ≤ length area.now }
     ensures { result ≡ from_bytes (take word_size (drop at area.now)) }
 {
-    let a = area[at] as u32;
-    let b = area[at + 1] as u32;
-    let c = area[at + 2] as u32;
-    let d = area[at + 3] as u32;
-    a + 256 * b + 65536 * c + 16777216 * d
+    u32::from_le_bytes([area[at], area[at + 1], area[at + 2], area[at + 3]])
 }
 
 // Puts the bytes of `w` at byte `at`, the lowest first.
@@ -22,10 +19,7 @@ fn put_word(area: &mut [u8], at: usize, w: u32)
     requires { at + word_size ≤ length area.old }
     ensures { area.new ≡ sets area.old at (to_bytes word_size w) }
 {
-    area[at] = (w % 256) as u8;
-    area[at + 1] = (w / 256 % 256) as u8;
-    area[at + 2] = (w / 65536 % 256) as u8;
-    area[at + 3] = (w / 16777216) as u8;
+    area[at..at + crate::limits::WORD_BYTES].copy_from_slice(&w.to_le_bytes());
 }
 
 // Loads the words from word `start` on, as many as `words` has places.
@@ -33,10 +27,8 @@ pub fn load(area: &[u8], start: usize, words: &mut [u32])
     requires { word_size * (start + length words.old) ≤ length area.now }
     ensures { words.new ≡ words_at area.now start (length words.old) }
 {
-    let mut i = 0;
-    while i < words.len() {
-        words[i] = word_at(area, crate::limits::WORD_BYTES * (start + i));
-        i += 1;
+    for (i, w) in words.iter_mut().enumerate() {
+        *w = word_at(area, crate::limits::WORD_BYTES * (start + i));
     }
 }
 
@@ -45,21 +37,16 @@ pub fn store(area: &mut [u8], start: usize, words: &[u32])
     requires { word_size * (start + length words.now) ≤ length area.old }
     ensures { area.new ≡ laid area.old start words.now }
 {
-    let mut i = 0;
-    while i < words.len() {
-        put_word(area, crate::limits::WORD_BYTES * (start + i), words[i]);
-        i += 1;
+    for (i, w) in words.iter().enumerate() {
+        put_word(area, crate::limits::WORD_BYTES * (start + i), *w);
     }
 }
 
 // Puts zeros from byte `from` up to byte `to`.
+// Words have `clearing::clear`: each is one call of the library, so that one generic function is no plainer.
 pub fn clear(area: &mut [u8], from: usize, to: usize)
     requires { (from ≤ to) × (to ≤ length area.old) }
     ensures { area.new ≡ cleared area.old from to }
 {
-    let mut i = from;
-    while i < to {
-        area[i] = 0;
-        i += 1;
-    }
+    area[from..to].fill(0);
 }

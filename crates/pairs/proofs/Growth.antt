@@ -1,12 +1,6 @@
 -- The index as it is made: of no pairs, and of one pair more. Assumes nothing.
-use mathlib.Core.Path.{◌≡◌, refl, sym, ◌∙◌}
-use mathlib.Core.List.{List, ◌++◌}
-use mathlib.Core.Logic.{◌⊎◌, inl, inr}
-use Prim.Native.Nat.{ℕ, suc, ◌+◌, ◌≤◌, ◌<◌}
-use native.Mathlib.Numerals.{add-one}
-use native.Mathlib.Omega.{arith}
-use lib.ListN.{length, get_or, drop, set, replicate, length-set, length-replicate, get_or-replicate, get_or-append}
-use lib.Seq.{get_or-set_same, get_or-set_other}
+use Rattle.std.proofs.Common.{◌≡◌, refl, sym, ◌∙◌, List, ◌++◌, ◌⊎◌, inl, inr, ℕ, suc, ◌+◌, ◌≤◌, ◌<◌, add-one, arith, length, get_or, drop, set, replicate, length-set, get_or-set_same, get_or-set_other}
+use Rattle.std.proofs.Math.ListN.{length-replicate, get_or-replicate, get_or-append}
 use Rattle.pairs.specs.Pairs.{place_of}
 use Rattle.pairs.specs.Index.{buckets, bucket_of, way_of, cells_of, Leads, here, down, Room, Indexed, LinksKept, Ends, Searched, Pushed}
 use Rattle.pairs.specs.declared.Found.{Found}
@@ -96,16 +90,16 @@ module _ {lefts rights cells : List ℕ} {n : ℕ} (ix : Indexed lefts rights ce
   wide_size = rw (length-set, length-set)
 
   -- the cell at which the search ended is one of the widened cells
-  pub end_fits : r.place ≡ n → r.cell < length (set (set cells (cells_of n) 0) (cells_of n + 1) 0)
+  end_fits : r.place ≡ n → r.cell < length (set (set cells (cells_of n) 0) (cells_of n + 1) 0)
   end_fits new = omega (arith, (found.ends new).low, wide_size, room.cells_fit)
 
   -- a link in the widened cells is an old one
   later-wide : (c p : ℕ) → c < cells_of (suc n) → get_or (wider cells n) c 0 ≡ suc p → (p < n) × (c < cells_of p)
-  later-wide c p l e = at (lt-or-le c (cells_of n))
-    where
-      at : (c < cells_of n) ⊎ (cells_of n ≤ c) → (p < n) × (c < cells_of p)
-      at (inl h) = ix.later c p h (sym (wide.same c h) ∙ e)
-      at (inr h) = absurd (omega (arith, wide.bare c h l))
+  later-wide c p l e =
+      elim (lt-or-le c (cells_of n)) [
+        | inl h ↦ ix.later c p h (sym (wide.same c h) ∙ e)
+        | inr h ↦ absurd (omega (arith, wide.bare c h l))
+      ]
 
   pub pushed_there : (r.place ≡ n → ⊥)
       → Pushed lefts rights (set lefts n a) (set rights n b) (set (set cells (cells_of n) 0) (cells_of n + 1) 0) n a b r.place
@@ -138,13 +132,13 @@ module _ {lefts rights cells : List ℕ} {n : ℕ} (ix : Indexed lefts rights ce
     kept_put c p l e = put_other c (λ q. omega (arith, rw q at e, ends.empty)) ∙ wide.same c l ∙ e
 
     later-put : (c p : ℕ) → c < cells_of (suc n) → get_or joined c 0 ≡ suc p → (p < suc n) × (c < cells_of p)
-    later-put c p l e = at (eq-or-not c r.cell)
-      where
-        at : (c ≡ r.cell) ⊎ (c ≡ r.cell → ⊥) → (p < suc n) × (c < cells_of p)
-        at (inl q) =
-            let own : p ≡ n = omega (arith, rw q at e, put-here) in
-            (omega arith, omega (arith, ends.low))
-        at (inr q) = let old = later-wide c p l (sym (put_other c q) ∙ e) in (omega arith, old.1)
+    later-put c p l e =
+        elim (eq-or-not c r.cell) [
+          | inl q ↦
+              let own : p ≡ n = omega (arith, rw q at e, put-here) in
+              (omega arith, omega (arith, ends.low))
+          | inr q ↦ let old = later-wide c p l (sym (put_other c q) ∙ e) in (omega arith, old.1)
+        ]
 
     pub pushed_new : Pushed lefts rights (set lefts n a) (set rights n b) (set (set (set cells (cells_of n) 0) (cells_of n + 1) 0) r.cell (n + 1)) n a b r.place
     pushed_new =

@@ -1,16 +1,12 @@
 -- Laws of the first place of a pair: where it lies, what stands there, and what a further pair changes. Assumes nothing.
-use mathlib.Core.Path.{◌≡◌, ap, sym, ◌∙◌}
-use mathlib.Core.List.{List}
-use mathlib.Core.Logic.{◌⊎◌, inl, inr}
-use Prim.Native.Nat.{ℕ, suc, ◌≤◌, ◌<◌}
-use native.Mathlib.Omega.{arith}
-use lib.ListN.{length, get_or, set, length-map}
-use lib.Seq.{get_or-set_same, get_or-set_other}
-use lib.Dec.{T, eqb, eqb→eq, eqb_refl}
+use Rattle.std.proofs.Common.{◌≡◌, ap, sym, ◌∙◌, List, inl, inr, ℕ, suc, ◌≤◌, ◌<◌, arith, length, get_or, set, get_or-set_same, get_or-set_other, T, eqb, eqb→eq}
+use Rattle.std.proofs.Math.ListN.{length-map}
+use Rattle.std.proofs.lemmas.List.{get_or-map}
+use Rattle.std.proofs.Math.Dec.{eqb_refl}
 use Rattle.model.specs.Lists.{first, from}
 use Rattle.pairs.specs.Pairs.{Pair, pair_at, pairs_of, is_pair, place_of}
 use Rattle.theory.proofs.Lists.Laws.{and_left, and_right, and_both, first-le, first_holds, first-least, length_from, get_or-from}
-use Rattle.theory.proofs.Table.Search.{lt-or-le, get_or-map-lt}
+use Rattle.theory.proofs.Table.Search.{lt-or-le}
 
 -- The pair at place i of two lists is (a, b).
 pub record Holds (lefts rights : List ℕ) (i a b : ℕ) : Type 0 where
@@ -26,7 +22,7 @@ module _ (lefts rights : List ℕ) where
   pub pairs-at : (n i : ℕ) (d : Pair) → i < n → get_or (pairs_of lefts rights n) i d ≡ pair_at lefts rights i
   unfolding pairs_of
   pairs-at n i d h =
-      get_or-map-lt (pair_at lefts rights) (from 0 n) i 0 d (rw length_from h) ∙ ap (pair_at lefts rights) (get_or-from 0 n i 0 h ∙ omega arith)
+      get_or-map (pair_at lefts rights) (from 0 n) i 0 d (rw length_from h) ∙ ap (pair_at lefts rights) (get_or-from 0 n i 0 h ∙ omega arith)
 
   -- the test of a pair is that it holds the numbers
   is-holds : (i a b : ℕ) → T (is_pair a b (pair_at lefts rights i)) → Holds lefts rights i a b
@@ -60,18 +56,11 @@ module _ (lefts rights : List ℕ) where
         let d = pair_at lefts rights 0 in
         first-least (is_pair a b) (pairs_of lefts rights n) d i (rw length_pairs l) (rw (pairs-at n i d l) (holds-is i a b h))
 
-    -- it is at least i where no place below i holds the pair
-    place-from-at : (i : ℕ) → i ≤ n → ((j : ℕ) → j < i → Holds lefts rights j a b → ⊥) → (place_of lefts rights n a b < i) ⊎ (i ≤ place_of lefts rights n a b)
-        → i ≤ place_of lefts rights n a b
-    place-from-at i l g (inl p) = absurd (g _ p (place-holds (omega arith)))
-    place-from-at i l g (inr p) = p
-
-    pub place-from : (i : ℕ) → i ≤ n → ((j : ℕ) → j < i → Holds lefts rights j a b → ⊥) → i ≤ place_of lefts rights n a b
-    place-from i l g = place-from-at i l g (lt-or-le _ i)
-
-    -- so it is the place that holds the pair and has no lower one that does, and n where no place holds it
-    pub place_is : (i : ℕ) → i < n → Holds lefts rights i a b → ((j : ℕ) → j < i → Holds lefts rights j a b → ⊥) → place_of lefts rights n a b ≡ i
-    place_is i l h g = omega (arith, place-least i l h, place-from i (omega arith) g)
+    -- it is at least i where no place below i holds the pair, so n where no place holds it
+    place-from : (i : ℕ) → i ≤ n → ((j : ℕ) → j < i → Holds lefts rights j a b → ⊥) → i ≤ place_of lefts rights n a b
+    place-from i l g =
+        let not_below : place_of lefts rights n a b < i → ⊥ = λ p. g _ p (place-holds (omega arith)) in
+        omega arith
 
     pub place_none : ((i : ℕ) → i < n → Holds lefts rights i a b → ⊥) → place_of lefts rights n a b ≡ n
     place_none g = omega (arith, place-le, place-from n (omega arith) g)
@@ -113,14 +102,14 @@ place-longer lefts rights n m a b longer h =
 
 -- the first place of the pair at place i is its first place among the pairs before, or i: it does not depend on later pairs
 module _ (lefts rights : List ℕ) (n i a b : ℕ) (there : i < n) (held : Holds lefts rights i a b) where
-  place-at_by : (place_of lefts rights i a b < i) ⊎ (i ≤ place_of lefts rights i a b) → place_of lefts rights n a b ≡ place_of lefts rights i a b
-  place-at_by (inl p) = place-longer lefts rights i n a b (omega arith) p
-  place-at_by (inr p) =
-      let up = place_mono lefts rights lefts rights i n a b (omega arith) (λ j l g. g) in
-      omega (arith, up, place-least lefts rights n a b i there held)
-
   pub place_at : place_of lefts rights n a b ≡ place_of lefts rights i a b
-  place_at = place-at_by (lt-or-le _ i)
+  place_at =
+      elim (lt-or-le (place_of lefts rights i a b) i) [
+        | inl p ↦ place-longer lefts rights i n a b (omega arith) p
+        | inr p ↦
+            let up = place_mono lefts rights lefts rights i n a b (omega arith) (λ j l g. g) in
+            omega (arith, up, place-least lefts rights n a b i there held)
+      ]
 
 -- One pair more: (a, b) at place n.
 module _ (lefts rights : List ℕ) (n a b : ℕ) where
@@ -149,13 +138,16 @@ module _ (lefts rights : List ℕ) (n a b : ℕ) (room-left : n < length lefts) 
 
   -- a pair that was not there is still not, unless it is the new one
   pub place_other : (x y : ℕ) → (x ≡ a → y ≡ b → ⊥) → place_of lefts rights n x y ≡ n → place_of (set lefts n a) (set rights n b) (suc n) x y ≡ suc n
-  place_other x y g e = place_none (set lefts n a) (set rights n b) (suc n) x y (λ i l h. none i l h (lt-or-le i n))
+  place_other x y g e = place_none (set lefts n a) (set rights n b) (suc n) x y none
     where
-      none : (i : ℕ) → i < suc n → Holds (set lefts n a) (set rights n b) i x y → (i < n) ⊎ (n ≤ i) → ⊥
-      none i l h (inl p) =
-          let below = place-least lefts rights n x y i p (kept_back (kept_set lefts rights n a b) i x y p h) in
-          omega (arith, below)
-      none i l h (inr p) =
-          let here : i ≡ n = omega arith in
-          let own : Holds (set lefts n a) (set rights n b) n x y = rw here at h in
-          g (sym own.left ∙ holds-set.left) (sym own.right ∙ holds-set.right)
+      none : (i : ℕ) → i < suc n → Holds (set lefts n a) (set rights n b) i x y → ⊥
+      none i l h =
+          elim (lt-or-le i n) [
+            | inl p ↦
+                let below = place-least lefts rights n x y i p (kept_back (kept_set lefts rights n a b) i x y p h) in
+                omega arith
+            | inr p ↦
+                let here : i ≡ n = omega arith in
+                let own : Holds (set lefts n a) (set rights n b) n x y = rw here at h in
+                g (sym own.left ∙ holds-set.left) (sym own.right ∙ holds-set.right)
+          ]

@@ -1,9 +1,5 @@
 -- Room for a list of pairs depends on lengths alone, and is room for fewer. Assumes nothing.
-use mathlib.Core.Path.{◌≡◌}
-use mathlib.Core.List.{List}
-use Prim.Native.Nat.{ℕ, ◌≤◌}
-use native.Mathlib.Omega.{arith}
-use lib.ListN.{length}
+use Rattle.std.proofs.Common.{◌≡◌, List, ℕ, ◌≤◌, arith, length}
 use Rattle.pairs.specs.Index.{Room}
 
 -- slices of the same lengths have the same room
@@ -21,8 +17,8 @@ room_kept r l h k =
 pub room_fewer : {lefts rights cells : List ℕ} {n m : ℕ} → m ≤ n → Room lefts rights cells n → Room lefts rights cells m
 room_fewer l r =
     record {
-      lefts_fit = omega (arith, r.lefts_fit);
-      rights_fit = omega (arith, r.rights_fit);
-      cells_fit = omega (arith, r.cells_fit);
+      lefts_fit = omega arith;
+      rights_fit = omega arith;
+      cells_fit = omega arith;
       words = r.words;
     }

@@ -1,2 +1,3 @@
 pub mod Pairs
 pub mod Index
+pub mod Lent

@@ -7,9 +7,47 @@
 ghost use Rattle.std.specs.Prelude.{◌≡◌, suc};
 ghost use Rattle.pairs.specs.Pairs.{place_of};
 ghost use Rattle.pairs.specs.Index.{hash_of, Room, Indexed, Searched, Pushed};
+ghost use Rattle.pairs.specs.Lent.{SameSlices, RoomIn, IndexedIn, PushedIn};
 
 // The number of buckets.
 pub const BUCKETS: usize = 4096;
+
+// The slices of an index. How many pairs they hold is said at each call: to a table's entries it is their number.
+#[derive(Drop)]
+pub struct Index<'a> {
+    pub lefts: &'a mut [u32],
+    pub rights: &'a mut [u32],
+    pub cells: &'a mut [u32],
+}
+
+impl Index<'_> {
+    // The first place of (a, b) among the first `count` pairs, or else `count`.
+    pub fn find(&self, count: usize, a: u32, b: u32) -> usize
+        requires { IndexedIn self.now count }
+        ensures { result ≡ place_of self.now.lefts.now self.now.rights.now count a b }
+    {
+        search(self.lefts, self.rights, self.cells, count, a, b).place
+    }
+
+    // Puts (a, b) at place `count`, and answers its first place: an older one, or else `count`, to which a link goes then.
+    pub fn push(&mut self, count: usize, a: u32, b: u32) -> usize
+        requires indexed { IndexedIn self.old count }
+        requires room { RoomIn self.old (suc count) }
+        ensures pushed { PushedIn self.old self.new count a b result }
+        ensures same_slices { SameSlices self.old self.new }
+    {
+        push(self.lefts, self.rights, self.cells, count, a, b)
+    }
+
+    // Forgets all pairs.
+    pub fn clear(&mut self)
+        requires { RoomIn self.old 0 }
+        ensures indexed { IndexedIn self.new 0 }
+        ensures same_slices { SameSlices self.old self.new }
+    {
+        layout::clearing::clear(self.cells, BUCKETS);
+    }
+}
 
 // What a search gives: a place, and the cell at which it ended.
 #[derive(Clone, Copy)]
@@ -19,14 +57,16 @@ struct Found {
 }
 
 // The hash of the pair (a, b).
+#[tactic(auto, unfolding(crate::specs::Index::hash_of))]
 fn hash(a: u32, b: u32) -> u64
     ensures { result ≡ hash_of a b }
 {
-    let low = (a as u64) * 16384 + (b as u64) % 16384;
-    low * 204665 % 70368744177664 + (b as u64) / 16384 * 70368744177664
+    let low = u64::from(a) * 16384 + u64::from(b) % 16384;
+    low * 204665 % 70368744177664 + u64::from(b) / 16384 * 70368744177664
 }
 
 // The first place of (a, b) among the first `count` pairs, or else `count`, the next free place; and the cell where the way ends.
+// No Option: the search yields a place either way, as document 01 has it.
 fn search(lefts: &[u32], rights: &[u32], cells: &[u32], count: usize, a: u32, b: u32) -> Found
     requires { Indexed lefts.now rights.now cells.now count }
     ensures { Searched lefts.now rights.now cells.now count a b result }
@@ -34,8 +74,8 @@ fn search(lefts: &[u32], rights: &[u32], cells: &[u32], count: usize, a: u32, b:
     let mixed = hash(a, b);
     let mut way = mixed % 65536 + mixed / 268435456 * 65536;
     let mut cell = (mixed / 65536) as usize % BUCKETS;
-    let mut link = cells[cell];
     let place = loop {
+        let link = cells[cell];
         if link == 0 {
             break count;
         }
@@ -44,8 +84,7 @@ fn search(lefts: &[u32], rights: &[u32], cells: &[u32], count: usize, a: u32, b:
             break at;
         }
         cell = BUCKETS + 2 * at + (way % 2) as usize;
-        link = cells[cell];
-        way = way / 2;
+        way /= 2;
     };
     Found { place, cell }
 }
@@ -55,8 +94,7 @@ pub fn find(lefts: &[u32], rights: &[u32], cells: &[u32], count: usize, a: u32, 
     requires { Indexed lefts.now rights.now cells.now count }
     ensures { result ≡ place_of lefts.now rights.now count a b }
 {
-    let found = search(lefts, rights, cells, count, a, b);
-    found.place
+    search(lefts, rights, cells, count, a, b).place
 }
 
 // Puts (a, b) at place `count`, and answers its first place: an older one, or else `count`, to which a link goes then.
@@ -79,8 +117,7 @@ pub fn push(
     cells[own] = 0;
     cells[own + 1] = 0;
     if found.place == count {
-        let cell = found.cell;
-        cells[cell] = (count + 1) as u32;
+        cells[found.cell] = (count + 1) as u32;
     }
     found.place
 }

@@ -4,4 +4,5 @@ pub mod Heads
 pub mod Bytes
 pub mod Lengths
 pub mod Writing
+pub mod Given
 pub mod Whole

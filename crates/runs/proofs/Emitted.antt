@@ -1,11 +1,6 @@
 -- Bytes into an output: too short, or written. Assumes nothing.
-use mathlib.Core.Path.{◌≡◌, refl}
-use mathlib.Core.List.{List, [], ◌∷◌, ◌++◌}
-use mathlib.Core.Bool.{Bool, true, false}
-use Prim.Native.Nat.{ℕ, ◌≤◌, ◌<◌}
-use lib.ListN.{length, drop}
-use lib.Dec.{leb}
-use borrow.Author.Tests.{le-leb, lt-leb}
+use Rattle.std.proofs.Common.{◌≡◌, refl, List, [], ◌∷◌, ◌++◌, Bool, true, false, ℕ, ◌≤◌, ◌<◌, length, drop, leb, le-leb}
+use borrow.Author.Tests.{lt-leb}
 use Rattle.model.specs.Call.{Outcome, refuse, accept, guard, over, emit}
 use Rattle.runs.specs.Emits.{Writes}
 

@@ -1,12 +1,5 @@
 -- Numbers as bytes, and runs of words as bytes: one number more, and bounds on the length. Assumes nothing.
-use mathlib.Core.Path.{◌≡◌, refl}
-use mathlib.Core.List.{List, [], ◌∷◌, ◌++◌, append-nil}
-use Prim.Native.Nat.{ℕ, ◌+◌, ◌*◌, ◌-◌, ◌≤◌, ◌<◌, zero-le, min}
-use native.Mathlib.Numerals.{add-one}
-use native.Mathlib.Omega.{arith}
-use lib.ListN.{length, get_or, take, drop, length-append, length-drop, length-take}
-use lib.Seq.{take-suc, take-add, length-take-le, get_or-take, get_or-drop}
-use lib.Dec.{leb, leb→le}
+use Rattle.std.proofs.Common.{◌≡◌, refl, List, [], ◌∷◌, ◌++◌, append-nil, ℕ, ◌+◌, ◌*◌, ◌-◌, ◌≤◌, ◌<◌, zero-le, min, add-one, arith, length, get_or, take, drop, length-append, length-drop, length-take, take-suc, take-add, length-take-le, get_or-take, get_or-drop, leb, leb→le}
 use Rattle.leb128.specs.Number.{max_groups, max_number, write}
 use Rattle.leb128.proofs.Laws.{writes_bytes}
 use Rattle.model.specs.Lists.{concat_map}

@@ -1,12 +1,6 @@
 -- Bytes laid over a list: nothing, more behind, the length, at the front, and a number that is written. Assumes nothing.
-use mathlib.Core.Path.{◌≡◌, refl, sym, ap, ◌∙◌}
-use mathlib.Core.List.{List, [], ◌∷◌, ◌++◌, append_assoc, append-nil}
-use Prim.Native.Nat.{ℕ, ◌+◌, ◌-◌, ◌≤◌, ◌<◌}
-use native.Mathlib.Nat.{add-zero, zero-add, add_assoc}
-use native.Mathlib.Numerals.{add-one}
-use native.Mathlib.Omega.{arith}
-use lib.ListN.{length, take, drop, set, length-append, length-drop, take-append-drop, drop_of_length-le}
-use lib.Seq.{length-take-le, take_at, take_all, drop-drop, set_split}
+use Rattle.std.proofs.Common.{◌≡◌, refl, sym, ap, ◌∙◌, List, [], ◌∷◌, ◌++◌, append_assoc, append-nil, ℕ, ◌+◌, ◌-◌, ◌≤◌, ◌<◌, add-zero, zero-add, add_assoc, add-one, arith, length, take, drop, set, length-append, length-drop, take-append-drop, drop_of_length-le, length-take-le, take_at, take_all, drop-drop}
+use Rattle.std.proofs.Math.Seq.{set_split}
 use Rattle.leb128.specs.Number.{max_groups, max_number, write, write_within}
 use Rattle.leb128.proofs.Writing.{all-written}
 use Rattle.theory.proofs.Lists.Rows.{drop_behind}

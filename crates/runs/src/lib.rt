@@ -1,6 +1,7 @@
 #![tactic(auto)]
 
-// Numbers as bytes, one after the other: their length, and writing them to a slice of bytes (specs/Runs.antt).
+// Numbers as bytes, one after the other: their length, and writing them to a slice of bytes (specs/Runs.antt). The place to write at goes
+// beside the output: the clauses name it (`over_at`).
 
 ghost use Rattle.std.specs.Prelude.{◌≡◌, ◌+◌, ◌≤◌, length, take, drop};
 ghost use Rattle.leb128.specs.Number.{max_groups, max_number, write};
@@ -12,11 +13,8 @@ pub fn run_length(words: &[u32], start: usize, count: usize) -> usize
     ensures { result ≡ length (run_bytes words.now start count) }
 {
     let mut sum: usize = 0;
-    let mut i: usize = 0;
-    while i < count {
-        let at = start + i;
-        sum += leb128::length_of(words[at]);
-        i += 1;
+    for w in &words[start..start + count] {
+        sum += leb128::length_of(*w);
     }
     sum
 }
@@ -38,11 +36,8 @@ pub fn put_run(words: &[u32], start: usize, count: usize, out: &mut [u8], at: us
     ensures bytes { out.new ≡ over_at out.old at (run_bytes words.now start count) }
 {
     let mut next = at;
-    let mut i: usize = 0;
-    while i < count {
-        let from = start + i;
-        next = put_number(out, next, words[from]);
-        i += 1;
+    for w in &words[start..start + count] {
+        next = put_number(out, next, *w);
     }
     next
 }

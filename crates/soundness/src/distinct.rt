@@ -21,14 +21,12 @@ pub fn distinct_ok(
     ensures { result ≡ distinct (table_of entries.now m) }
 {
     layout::clearing::clear(cells, pairs::BUCKETS);
-    let mut i = 0;
-    while i < m {
+    for i in 0..m {
         let row = ENTRY_WORDS * i;
         let place = pairs::push(lefts, rights, cells, i, entries[row], entries[row + 1]);
         if place != i {
             return false;
         }
-        i += 1;
     }
     true
 }

@@ -2,23 +2,27 @@
 // are computed already (specs/kinds/Known.antt, specs/entries/SameAsTest.antt). They only read the table; `lefts`, `rights` and `cells`
 // are scratch.
 
-ghost use Rattle.std.specs.Prelude.{◌≡◌, true, ◌&&◌, T};
+ghost use Rattle.std.specs.Prelude.{◌≡◌, ◌&&◌, T};
 ghost use Rattle.model.specs.Lists.{all};
 ghost use Rattle.model.specs.Area.{distinct};
 ghost use Rattle.layout.specs.limits.Rows.{table_of};
 ghost use Rattle.soundness.specs.sound.Sound.{values_ok};
 ghost use Rattle.soundness.specs.kinds.Known.{Named, Known, GivenBook, TestAnswers};
 ghost use Rattle.pairs.specs.Index.{Room};
-ghost use Rattle.soundness.specs.entries.SameAsTest.{same_as_right};
+ghost use Rattle.soundness.specs.declared.entries.SameAs.{SameAs};
+ghost use Rattle.soundness.specs.entries.SameAsTest.{same_as_right, all_right};
 
 use layout::limits::ENTRY_WORDS;
 
-// What the test of same-as finds: whether all are right, and whether no two entries have the same two names, so that none hold the same
-// two terms.
+// What the test of same-as finds.
 #[derive(Clone, Copy)]
-struct SameAs {
-    right: bool,
-    apart: bool,
+enum SameAs {
+    // One is not right.
+    Wrong,
+    // All are right, and no two entries have the same two names, so that none hold the same two terms.
+    Apart,
+    // All are right, and two entries have the same two names.
+    Shared,
 }
 
 // Whether the same-as of each of the `m` entries is the first entry with its two names.
@@ -33,29 +37,24 @@ fn same_as_ok(
     requires known { GivenBook (λ b β. Named b β names.now entries.now m) }
     requires room { Room lefts.old rights.old cells.old m }
     ensures right { TestAnswers (λ b β. Named b β names.now entries.now m)
-        (λ b β. all (same_as_right b β (table_of entries.now m)) (table_of entries.now m)) result.right }
-    ensures apart { result.right ≡ true → result.apart ≡ true → T (distinct (table_of entries.now m)) }
+        (λ b β. all (same_as_right b β (table_of entries.now m)) (table_of entries.now m)) (all_right result) }
+    ensures apart { result ≡ SameAs.Apart → T (distinct (table_of entries.now m)) }
 {
     layout::clearing::clear(cells, pairs::BUCKETS);
     let mut apart = true;
-    let mut i = 0;
-    while i < m {
+    for i in 0..m {
         let row = ENTRY_WORDS * i;
-        let left = entries[row] as usize;
-        let right = entries[row + 1] as usize;
-        let place = pairs::push(lefts, rights, cells, i, names[left], names[right]);
+        let left = names[entries[row] as usize];
+        let right = names[entries[row + 1] as usize];
+        let place = pairs::push(lefts, rights, cells, i, left, right);
         if place != entries[row + ENTRY_WORDS - 1] as usize {
-            return SameAs {
-                right: false,
-                apart,
-            };
+            return SameAs::Wrong;
         }
         if place != i {
             apart = false;
         }
-        i += 1;
     }
-    SameAs { right: true, apart }
+    if apart { SameAs::Apart } else { SameAs::Shared }
 }
 
 // Whether the table of `m` entries passes the tests that look at values and at pairs of entries.
@@ -78,12 +77,9 @@ pub fn table_ok(
     if !crate::kinds::kinds_ok(rows, roots, names, entries, m) {
         return false;
     }
-    let found = same_as_ok(names, entries, m, lefts, rights, cells);
-    if !found.right {
-        return false;
+    match same_as_ok(names, entries, m, lefts, rights, cells) {
+        SameAs::Wrong => false,
+        SameAs::Apart => true,
+        SameAs::Shared => crate::distinct::distinct_ok(entries, m, lefts, rights, cells),
     }
-    if found.apart {
-        return true;
-    }
-    crate::distinct::distinct_ok(entries, m, lefts, rights, cells)
 }

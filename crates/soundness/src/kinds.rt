@@ -1,11 +1,11 @@
 // The test of the kinds of a loaded table's entries, on names and roots that are computed already (specs/kinds/Known.antt,
 // specs/kinds/KindTests.antt). It only reads.
 
-ghost use Rattle.std.specs.Prelude.{◌≡◌, ◌<◌, length};
+ghost use Rattle.std.specs.Prelude.{◌≡◌, ◌+◌, ◌*◌, ◌<◌, ◌≤◌, length, take, drop};
 ghost use Rattle.model.specs.Lists.{all};
 ghost use Rattle.model.specs.Table.{entry};
-ghost use Rattle.model.specs.Area.{arguments_ok, kind_ok};
-ghost use Rattle.layout.specs.limits.Rows.{node_of, table_of};
+ghost use Rattle.model.specs.Area.{term_words, arguments_ok, kind_ok};
+ghost use Rattle.layout.specs.limits.Rows.{at, node_of, table_of};
 ghost use Rattle.soundness.specs.kinds.Known.{Named, RowsKnown, Known, Terms, GivenBook, TestAnswers};
 ghost use Rattle.soundness.specs.kinds.KindTests.{argument_right, kind_right};
 
@@ -22,12 +22,7 @@ fn argument_ok(names: &[u32], entries: &[u32], m: usize, i: u32, l: u32, r: u32)
         return false;
     }
     let e = layout::entry::entry_at(entries, i);
-    let left = e.left as usize;
-    if names[left] != names[l as usize] {
-        return false;
-    }
-    let right = e.right as usize;
-    names[right] == names[r as usize]
+    names[e.left as usize] == names[l as usize] && names[e.right as usize] == names[r as usize]
 }
 
 // Whether the entries `args` have the values of the pairs of the terms `ls` and `rs`, one for one.
@@ -43,20 +38,20 @@ fn arguments_ok(
     ensures { TestAnswers (λ b β. Named b β names.now entries.now m × Terms b ls.now × Terms b rs.now)
         (λ b β. arguments_ok b β (table_of entries.now m) args.now ls.now rs.now) result }
 {
-    if args.len() != ls.len() {
+    if args.len() != ls.len() || args.len() != rs.len() {
         return false;
     }
-    if args.len() != rs.len() {
-        return false;
-    }
-    let mut j = 0;
-    while j < args.len() {
-        if !argument_ok(names, entries, m, args[j], ls[j], rs[j]) {
-            return false;
-        }
-        j += 1;
-    }
-    true
+    (0..args.len()).all(|j| argument_ok(names, entries, m, args[j], ls[j], rs[j]))
+}
+
+// The arguments of the term in row `l`.
+fn arguments_of(rows: &[u32], l: usize) -> &[u32]
+    requires { term_words * l + 2 + at rows.now (term_words * l + 1) ≤ length rows.now }
+    ensures { result.now ≡ take (at rows.now (term_words * l + 1)) (drop (term_words * l + 2) rows.now) }
+{
+    let first = TERM_WORDS * l + 2;
+    let end = first + rows[first - 1] as usize;
+    &rows[first..end]
 }
 
 // Whether the kind of entry `i` is right for the terms `l` and `r`.
@@ -79,27 +74,16 @@ fn kind_fits(
     if !layout::limits::alike(rows, l, r) {
         return e.kind == 0;
     }
-    if e.kind == 0 {
+    if e.kind == 0 || e.symbol != rows[TERM_WORDS * l] - 1 {
         return false;
     }
-    let left = TERM_WORDS * l;
-    if e.symbol != rows[left] - 1 {
-        return false;
-    }
-    let right = TERM_WORDS * r;
-    let count = e.count as usize;
-    let args = e.arguments;
-    let left_args = left + 2;
-    let right_args = right + 2;
-    let left_end = left_args + rows[left + 1] as usize;
-    let right_end = right_args + rows[right + 1] as usize;
     arguments_ok(
         names,
         entries,
         m,
-        &args[..count],
-        &rows[left_args..left_end],
-        &rows[right_args..right_end],
+        &e.arguments[..e.count as usize],
+        arguments_of(rows, l),
+        arguments_of(rows, r),
     )
 }
 
@@ -111,17 +95,9 @@ fn kind_ok(rows: &[u32], roots: &[u32], names: &[u32], entries: &[u32], m: usize
         (λ b β. kind_right b β (table_of entries.now m) (entry (table_of entries.now m) i)) result }
 {
     let e = layout::entry::entry_at(entries, i);
-    let left = e.left as usize;
-    let right = e.right as usize;
-    kind_fits(
-        rows,
-        names,
-        entries,
-        m,
-        i,
-        roots[left] as usize,
-        roots[right] as usize,
-    )
+    let left = roots[e.left as usize] as usize;
+    let right = roots[e.right as usize] as usize;
+    kind_fits(rows, names, entries, m, i, left, right)
 }
 
 // Whether the kind of each of the `m` entries is right.
@@ -130,12 +106,5 @@ pub fn kinds_ok(rows: &[u32], roots: &[u32], names: &[u32], entries: &[u32], m: 
     ensures { TestAnswers (λ b β. Known b β rows.now roots.now names.now entries.now m)
         (λ b β. all (kind_right b β (table_of entries.now m)) (table_of entries.now m)) result }
 {
-    let mut i = 0;
-    while i < m {
-        if !kind_ok(rows, roots, names, entries, m, i) {
-            return false;
-        }
-        i += 1;
-    }
-    true
+    (0..m).all(|i| kind_ok(rows, roots, names, entries, m, i))
 }

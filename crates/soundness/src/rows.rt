@@ -8,14 +8,7 @@ ghost use Rattle.soundness.specs.rows.RowTests.{zero_from};
 pub fn all_below(words: &[u32], limit: usize) -> bool
     ensures { result ≡ all (λ w. ltb w limit) words.now }
 {
-    let mut i = 0;
-    while i < words.len() {
-        if limit <= words[i] as usize {
-            return false;
-        }
-        i += 1;
-    }
-    true
+    words.iter().all(|w| (*w as usize) < limit)
 }
 
 // Whether every word from place `from` on is 0. It reads them all, also behind one that is not: the loop has one way out, so that the
@@ -25,12 +18,10 @@ pub fn zero_from(words: &[u32], from: usize) -> bool
     ensures { result ≡ zero_from words.now from }
 {
     let mut zero = true;
-    let mut k = from;
-    while k < words.len() {
-        if words[k] != 0 {
+    for w in &words[from..] {
+        if *w != 0 {
             zero = false;
         }
-        k += 1;
     }
     zero
 }

@@ -8,14 +8,12 @@ use crate::rows::{all_below, zero_from};
 use layout::limits::{ENTRY_WORDS, MAX_ARITY};
 
 // Whether the first `k` words are below `m`, and the others 0.
+#[tactic(auto, unfolding(crate::specs::rows::RowTests::lines_ok))]
 pub fn lines_ok(lines: &[u32], k: usize, m: usize) -> bool
     requires { k ≤ length lines.now }
     ensures { result ≡ lines_ok lines.now k m }
 {
-    if !all_below(&lines[..k], m) {
-        return false;
-    }
-    zero_from(lines, k)
+    all_below(&lines[..k], m) && zero_from(lines, k)
 }
 
 // Whether row `i` is an entry's row, its kind 0 or 1 and its sides below `n`.
@@ -29,18 +27,14 @@ fn entry_row_ok(entries: &[u32], n: usize, i: usize) -> bool
         return false;
     }
     let last = start + (ENTRY_WORDS - 1);
-    if entries[kind] == 0 {
-        return all_below(&entries[kind..last], 1);
+    match entries[kind] {
+        0 => all_below(&entries[kind..last], 1),
+        1 => {
+            let count = entries[kind + 2] as usize;
+            count <= MAX_ARITY && all_below(&entries[kind + 3 + count..last], 1)
+        }
+        _ => false,
     }
-    if entries[kind] != 1 {
-        return false;
-    }
-    let count = entries[kind + 2] as usize;
-    if MAX_ARITY < count {
-        return false;
-    }
-    let behind = kind + 3 + count;
-    all_below(&entries[behind..last], 1)
 }
 
 // Whether the rows are those of `m` entries over `n` terms, and the words behind them 0.
@@ -48,12 +42,5 @@ pub fn entry_rows_ok(entries: &[u32], m: usize, n: usize) -> bool
     requires { entry_row_words * m ≤ length entries.now }
     ensures { result ≡ entry_rows_ok entries.now m n }
 {
-    let mut i = 0;
-    while i < m {
-        if !entry_row_ok(entries, n, i) {
-            return false;
-        }
-        i += 1;
-    }
-    zero_from(entries, ENTRY_WORDS * m)
+    (0..m).all(|i| entry_row_ok(entries, n, i)) && zero_from(entries, ENTRY_WORDS * m)
 }

@@ -17,22 +17,16 @@ fn term_row_ok(rows: &[u32], t: usize) -> bool
     let start = TERM_WORDS * t;
     let end = start + TERM_WORDS;
     let tag = rows[start] as usize;
+    let count = rows[start + 1] as usize;
     if tag == 0 {
         return all_below(&rows[start..end], 1);
     }
-    if MAX_SYMBOL + 1 < tag {
-        return false;
-    }
-    let count = rows[start + 1] as usize;
-    if MAX_ARITY < count {
+    if MAX_SYMBOL + 1 < tag || MAX_ARITY < count {
         return false;
     }
     let first = start + 2;
     let behind = first + count;
-    if !all_below(&rows[first..behind], t) {
-        return false;
-    }
-    all_below(&rows[behind..end], 1)
+    all_below(&rows[first..behind], t) && all_below(&rows[behind..end], 1)
 }
 
 // Whether the rows are those of `n` terms, and the words behind them are 0.
@@ -40,14 +34,7 @@ pub fn term_rows_ok(rows: &[u32], n: usize) -> bool
     requires { term_words * n ≤ length rows.now }
     ensures { result ≡ term_rows_ok rows.now n }
 {
-    let mut t = 0;
-    while t < n {
-        if !term_row_ok(rows, t) {
-            return false;
-        }
-        t += 1;
-    }
-    zero_from(rows, TERM_WORDS * n)
+    (0..n).all(|t| term_row_ok(rows, t)) && zero_from(rows, TERM_WORDS * n)
 }
 
 // Whether term `t` is not bound, or is a variable that is bound to one of `n` terms.
@@ -56,13 +43,7 @@ fn binding_ok(rows: &[u32], bindings: &[u32], n: usize, t: usize) -> bool
     ensures { result ≡ binding_ok (book_of rows.now n) (node_of rows.now t) (binding_of bindings.now t) }
 {
     let bound = bindings[t] as usize;
-    if bound == 0 {
-        return true;
-    }
-    if rows[TERM_WORDS * t] != 0 {
-        return false;
-    }
-    bound <= n
+    bound == 0 || (rows[TERM_WORDS * t] == 0 && bound <= n)
 }
 
 // Whether the words are the bindings of `n` terms, and the words behind them 0.
@@ -70,12 +51,5 @@ pub fn bindings_ok(rows: &[u32], bindings: &[u32], n: usize) -> bool
     requires { (term_words * n ≤ length rows.now) × (n ≤ length bindings.now) }
     ensures { result ≡ bindings_ok rows.now bindings.now n }
 {
-    let mut t = 0;
-    while t < n {
-        if !binding_ok(rows, bindings, n, t) {
-            return false;
-        }
-        t += 1;
-    }
-    zero_from(bindings, n)
+    (0..n).all(|t| binding_ok(rows, bindings, n, t)) && zero_from(bindings, n)
 }

@@ -5,9 +5,10 @@ ghost use Rattle.layout.specs.limits.Limits.{limits_of};
 ghost use Rattle.pairs.specs.Index.{Room};
 ghost use Rattle.step.specs.add_line.Adding.{GivenBindings, AddsLine};
 
-use crate::answer::{StepAnswer, Stepped};
+use crate::answer::{Accepted, Stepped};
 use layout::header::Header;
 use layout::limits::Limits;
+use refusal::Refusal;
 
 // Adds the line of the terms `l` and `r`: 8 where one is no term, 12 where there is no room for a line, 11 where there is none for
 // its entries. The answer is the line's entry.
@@ -24,7 +25,7 @@ pub fn add_line(
     lefts: &mut [u32],
     rights: &mut [u32],
     cells: &mut [u32],
-) -> Stepped
+) -> Result<Stepped, Refusal>
     requires modest { Modest (limits_of lim) }
     requires given { GivenBindings (limits_of lim) h rows.now roots.now names.now lines.old entries.old }
     requires room { Room lefts.old rights.old cells.old h.capacity }
@@ -32,27 +33,24 @@ pub fn add_line(
         result lines.new entries.new }
 {
     if h.terms <= l {
-        return crate::answer::refused(8);
+        return Err(Refusal::NamesNothing);
     }
     if h.terms <= r {
-        return crate::answer::refused(8);
+        return Err(Refusal::NamesNothing);
     }
     let k = h.lines as usize;
     if lim.lines <= k {
-        return crate::answer::refused(12);
+        return Err(Refusal::TooManyLines);
     }
     let capacity = h.capacity as usize;
     let m = h.entries as usize;
     let g = crate::grow::grow(
         rows, roots, names, entries, capacity, m, l, r, lefts, rights, cells,
-    );
-    if g.full {
-        return crate::answer::refused(11);
-    }
+    )?;
     lines[k] = g.entry;
-    Stepped {
-        answer: StepAnswer::Added(g.entry),
+    Ok(Stepped {
+        accepted: Accepted::Added { entry: g.entry },
         entries: g.count as u32,
         lines: h.lines + 1,
-    }
+    })
 }

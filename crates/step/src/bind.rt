@@ -9,11 +9,13 @@ ghost use Rattle.layout.specs.limits.Rows.{node_of, book_of, binding_of, bound_o
 ghost use Rattle.layout.specs.header.Held.{held};
 ghost use Rattle.values.specs.roots.Reading.{Listed};
 ghost use Rattle.step.specs.declared.answer.Step.TheVariants.{Bind};
-ghost use Rattle.step.specs.answer.Stepped.{header_after, Gives};
+ghost use Rattle.refusal.specs.Numbers.{number};
+ghost use Rattle.step.specs.answer.Stepped.{answer_of, header_after, Gives};
 ghost use Rattle.step.specs.bind.Choosing.{Asked, GivenLines, early_refusal};
 
 use crate::answer::Stepped;
 use layout::header::Header;
+use refusal::Refusal;
 
 // Whether the term `v` is a free variable.
 fn is_free(rows: &[u32], bindings: &[u32], v: u32) -> bool
@@ -21,13 +23,10 @@ fn is_free(rows: &[u32], bindings: &[u32], v: u32) -> bool
     ensures { result ≡ is_free (node_of rows.now v) (binding_of bindings.now v) }
 {
     let i = v as usize;
-    if rows[layout::limits::TERM_WORDS * i] != 0 {
-        return false;
-    }
-    bindings[i] == 0
+    rows[layout::limits::TERM_WORDS * i] == 0 && bindings[i] == 0
 }
 
-// The refusal of the choice (`v`, `t`) by the tests before the walk, or 0. `flags` is scratch.
+// The tests of the choice (`v`, `t`) before the walk: 8, 9 or 10 where one refuses it. `flags` is scratch.
 fn early_refusal(
     rows: &[u32],
     bindings: &[u32],
@@ -36,23 +35,23 @@ fn early_refusal(
     list: &[u32],
     v: u32,
     t: u32,
-) -> u32
+) -> Result<(), Refusal>
     requires { Listed rows.now bindings.now list.now n × (n ≤ length flags.old) }
-    ensures { result ≡ early_refusal (book_of rows.now n) (bound_of bindings.now n) v t }
+    ensures { number result ≡ early_refusal (book_of rows.now n) (bound_of bindings.now n) v t }
 {
     if n <= v {
-        return 8;
+        return Err(Refusal::NamesNothing);
     }
     if n <= t {
-        return 8;
+        return Err(Refusal::NamesNothing);
     }
     if !is_free(rows, bindings, v) {
-        return 9;
+        return Err(Refusal::NotFree);
     }
     if values::roots::occurs_in(rows, bindings, n, flags, list, v, t) {
-        return 10;
+        return Err(Refusal::Occurs);
     }
-    0
+    Ok(())
 }
 
 // Binds the variable `v` to the term `t`: 8, 9, 10, 11, or how many entries turned and how many were appended. Where it is
@@ -70,17 +69,14 @@ pub fn bind(
     lefts: &mut [u32],
     rights: &mut [u32],
     cells: &mut [u32],
-) -> Stepped
+) -> Result<Stepped, Refusal>
     requires { GivenLines (Asked h rows.now bindings.old list.old roots.old names.old entries.old lefts.old rights.old cells.old) }
     ensures { (lim : Limits) (lines : List ℕ)
         → Asked h rows.now bindings.old list.old roots.old names.old entries.old lefts.old rights.old cells.old lim lines
         → Gives lim (Bind v t) (Step.bind (loaded_state (held h rows.now bindings.old lines entries.old)) v t)
-        result.answer (held (header_after h result) rows.now bindings.new lines entries.new) }
+        (answer_of result) (held (header_after h result) rows.now bindings.new lines entries.new) }
 {
-    let refusal = early_refusal(rows, bindings, h.terms, cells, list, v, t);
-    if refusal != 0 {
-        return crate::answer::refused(refusal);
-    }
+    early_refusal(rows, bindings, h.terms, cells, list, v, t)?;
     let i = v as usize;
     bindings[i] = t + 1;
     crate::rebuild::rebuild(

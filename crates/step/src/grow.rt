@@ -3,10 +3,11 @@
 ghost use Rattle.table.specs.place.Stands.{GivenTable, Whatever};
 ghost use Rattle.step.specs.grow.Growing.{ToGrow, IsGrown};
 
+use refusal::Refusal;
 use table::place::Placed;
 
-// Places the terms `l` and `r` in the loaded table of `m` entries and walks it through. `lefts`, `rights` and `cells` are
-// scratch.
+// Places the terms `l` and `r` in the loaded table of `m` entries and walks it through; 11 where that needs more entries than the
+// capacity. `lefts`, `rights` and `cells` are scratch.
 pub fn grow(
     rows: &[u32],
     roots: &[u32],
@@ -19,22 +20,18 @@ pub fn grow(
     lefts: &mut [u32],
     rights: &mut [u32],
     cells: &mut [u32],
-) -> Placed
+) -> Result<Placed, Refusal>
     requires { GivenTable (ToGrow rows.now roots.now names.now entries.old lefts.old rights.old cells.old capacity m l r) }
     ensures { Whatever (ToGrow rows.now roots.now names.now entries.old lefts.old rights.old cells.old capacity m l r)
         (IsGrown entries.new lefts.new rights.new cells.new capacity l r result) }
 {
     table::index::index(names, entries, m, lefts, rights, cells);
-    let p = table::place::place(names, entries, capacity, m, l, r, lefts, rights, cells);
-    if p.full {
-        return p;
-    }
+    let p = table::place::place(names, entries, capacity, m, l, r, lefts, rights, cells)?;
     let w = table::saturate::walk(
         rows, roots, names, entries, capacity, p.count, lefts, rights, cells,
-    );
-    Placed {
+    )?;
+    Ok(Placed {
         entry: p.entry,
         count: w.count,
-        full: w.full,
-    }
+    })
 }

@@ -6,6 +6,7 @@ ghost use Rattle.step.specs.rebuild.Rebuilding.{ToRebuild};
 
 use crate::answer::Stepped;
 use layout::header::Header;
+use refusal::Refusal;
 
 // The table under bindings that have changed: the terms are named anew, the sides of the entries indexed by their new names, and
 // the table walked through. No value contains itself here, so the test of that never refuses.
@@ -20,13 +21,13 @@ pub fn rebuild(
     lefts: &mut [u32],
     rights: &mut [u32],
     cells: &mut [u32],
-) -> Stepped
+) -> Result<Stepped, Refusal>
     requires { ToRebuild h rows.now bindings.now list.old roots.old names.old entries.old lefts.old rights.old cells.old }
     ensures { IsSettled h entries.new result (book_of rows.now h.terms) (bound_of bindings.now h.terms) (table_of entries.old h.entries) }
 {
     let n = h.terms;
     if !values::evaluate::name_terms(rows, bindings, n, list, roots, names, lefts, rights, cells) {
-        return crate::answer::refused(10);
+        return Err(Refusal::Occurs);
     }
     let m = h.entries as usize;
     table::index::index(names, entries, m, lefts, rights, cells);

@@ -4,8 +4,9 @@ ghost use Rattle.table.specs.place.Stands.{GivenTable, Whatever};
 ghost use Rattle.table.specs.saturate.Walking.{ToWalk};
 ghost use Rattle.step.specs.settle.Settled.{IsSettled};
 
-use crate::answer::{StepAnswer, Stepped};
+use crate::answer::{Accepted, Stepped};
 use layout::header::Header;
+use refusal::Refusal;
 
 // Walks through an indexed table and sets same-as: 11, or how many entries turned and how many were appended.
 pub fn walk_and_settle(
@@ -17,7 +18,7 @@ pub fn walk_and_settle(
     lefts: &mut [u32],
     rights: &mut [u32],
     cells: &mut [u32],
-) -> Stepped
+) -> Result<Stepped, Refusal>
     requires { GivenTable (ToWalk rows.now roots.now names.now entries.old lefts.old rights.old cells.old h.capacity h.entries) }
     ensures { Whatever (ToWalk rows.now roots.now names.now entries.old lefts.old rights.old cells.old h.capacity h.entries)
         (IsSettled h entries.new result) }
@@ -26,15 +27,15 @@ pub fn walk_and_settle(
     let m = h.entries as usize;
     let w = table::saturate::walk(
         rows, roots, names, entries, capacity, m, lefts, rights, cells,
-    );
-    if w.full {
-        return crate::answer::refused(11);
-    }
+    )?;
     let count = w.count;
     table::same_as::settle(entries, count, lefts, rights, cells);
-    Stepped {
-        answer: StepAnswer::Bound(w.turned as u32, (count - m) as u32),
+    Ok(Stepped {
+        accepted: Accepted::Bound {
+            turned: w.turned as u32,
+            appended: (count - m) as u32,
+        },
         entries: count as u32,
         lines: h.lines,
-    }
+    })
 }

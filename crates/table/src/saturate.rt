@@ -1,18 +1,21 @@
 // The walk of a pair table in slices, as its definition says (specs/saturate/Walking.antt; document 01, "The pair table"). The slices are those
 // of module `visit`.
 
+ghost use Rattle.pairs.specs.Lent.{SameSlices};
 ghost use Rattle.table.specs.place.Stands.{GivenTable, Whatever};
 ghost use Rattle.table.specs.saturate.Walking.{ToWalk, IsWalked};
 
-// How many of the old entries turned, the number of entries after the walk, and whether it would need more than the capacity.
+use pairs::Index;
+use refusal::Refusal;
+
+// How many of the old entries turned, and the number of entries after the walk.
 #[derive(Clone, Copy)]
 pub struct Walked {
     pub turned: usize,
     pub count: usize,
-    pub full: bool,
 }
 
-// Visits the entries from the first on, appended ones included.
+// Visits the entries from the first on, appended ones included; 11 where that needs more entries than the capacity.
 pub fn walk(
     rows: &[u32],
     roots: &[u32],
@@ -20,33 +23,26 @@ pub fn walk(
     entries: &mut [u32],
     capacity: usize,
     m: usize,
-    lefts: &mut [u32],
-    rights: &mut [u32],
-    cells: &mut [u32],
-) -> Walked
-    requires { GivenTable (ToWalk rows.now roots.now names.now entries.old lefts.old rights.old cells.old capacity m) }
-    ensures { Whatever (ToWalk rows.now roots.now names.now entries.old lefts.old rights.old cells.old capacity m)
-        (IsWalked entries.new lefts.new rights.new cells.new capacity result) }
+    index: &mut Index,
+) -> Result<Walked, Refusal>
+    requires { GivenTable (ToWalk rows.now roots.now names.now entries.old index.old.lefts.now index.old.rights.now index.old.cells.now capacity m) }
+    ensures walked { Whatever (ToWalk rows.now roots.now names.now entries.old index.old.lefts.now index.old.rights.now index.old.cells.now capacity m)
+        (IsWalked entries.new index.new.lefts.now index.new.rights.now index.new.cells.now capacity result) }
+    ensures same_slices { SameSlices index.old index.new }
 {
     let mut w = Walked {
         turned: 0,
         count: m,
-        full: false,
     };
     let mut i = 0;
+    // a `while`: the bound grows where a visit appends entries
     while i < w.count {
-        let v = crate::visit::visit(
-            rows, roots, names, entries, capacity, w.count, i, lefts, rights, cells,
-        );
-        if v.full {
-            w.full = true;
-            return w;
-        }
+        let v = crate::visit::visit(rows, roots, names, entries, capacity, w.count, i, index)?;
         if v.turned && i < m {
             w.turned += 1;
         }
         w.count = v.count;
         i += 1;
     }
-    w
+    Ok(w)
 }

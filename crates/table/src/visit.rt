@@ -4,30 +4,30 @@
 ghost use Rattle.std.specs.Prelude.{◌+◌, ◌*◌, ◌≤◌, length};
 ghost use Rattle.model.specs.Area.{term_words};
 ghost use Rattle.layout.specs.limits.Rows.{at};
+ghost use Rattle.pairs.specs.Lent.{SameSlices};
 ghost use Rattle.table.specs.place.Stands.{GivenTable, Whatever};
 ghost use Rattle.table.specs.visit.Visiting.{arguments_at, ToPlaceAll, ArePlaced, ToTurn, IsTurned, ToVisit, IsVisited};
 
 use layout::entry::Entry;
 use layout::limits::{MAX_ARITY, TERM_WORDS};
+use pairs::Index;
+use refusal::Refusal;
 
-// The entries of the argument pairs of two terms, the number of entries with them, and whether they would need more than the
-// capacity.
+// The entries of the argument pairs of two terms, and the number of entries with them.
 #[derive(Clone, Copy)]
 struct Arguments {
     entries: [u32; MAX_ARITY],
     count: usize,
-    full: bool,
 }
 
-// Whether an entry turned, and the same of its visit.
+// Whether an entry turned, and the number of entries after its visit.
 #[derive(Clone, Copy)]
 pub struct Visited {
     pub turned: bool,
     pub count: usize,
-    pub full: bool,
 }
 
-// Places the argument pairs of the terms in rows `l` and `r`, left to right.
+// Places the argument pairs of the terms in rows `l` and `r`, left to right; 11 where they need more entries than the capacity.
 fn place_all(
     rows: &[u32],
     names: &[u32],
@@ -36,23 +36,21 @@ fn place_all(
     m: usize,
     l: usize,
     r: usize,
-    lefts: &mut [u32],
-    rights: &mut [u32],
-    cells: &mut [u32],
-) -> Arguments
-    requires given { GivenTable (ToPlaceAll names.now entries.old lefts.old rights.old cells.old capacity m (arguments_at rows.now l) (arguments_at rows.now r)) }
+    index: &mut Index,
+) -> Result<Arguments, Refusal>
+    requires given { GivenTable (ToPlaceAll names.now entries.old index.old.lefts.now index.old.rights.now index.old.cells.now capacity m (arguments_at rows.now l) (arguments_at rows.now r)) }
     requires left { term_words * l + 2 + at rows.now (term_words * l + 1) ≤ length rows.now }
     requires right { term_words * r + 2 + at rows.now (term_words * r + 1) ≤ length rows.now }
-    ensures { Whatever (ToPlaceAll names.now entries.old lefts.old rights.old cells.old capacity m (arguments_at rows.now l) (arguments_at rows.now r))
-        (ArePlaced entries.new lefts.new rights.new cells.new capacity (arguments_at rows.now l) (arguments_at rows.now r) result) }
+    ensures placed { Whatever (ToPlaceAll names.now entries.old index.old.lefts.now index.old.rights.now index.old.cells.now capacity m (arguments_at rows.now l) (arguments_at rows.now r))
+        (ArePlaced entries.new index.new.lefts.now index.new.rights.now index.new.cells.now capacity (arguments_at rows.now l) (arguments_at rows.now r) result) }
+    ensures same_slices { SameSlices index.old index.new }
 {
     let first_left = TERM_WORDS * l + 2;
     let first_right = TERM_WORDS * r + 2;
     let arity = rows[TERM_WORDS * l + 1] as usize;
     let mut numbers = [0; MAX_ARITY];
     let mut count = m;
-    let mut j = 0;
-    while j < arity {
+    for j in 0..arity {
         let p = crate::place::place(
             names,
             entries,
@@ -60,26 +58,15 @@ fn place_all(
             count,
             rows[first_left + j],
             rows[first_right + j],
-            lefts,
-            rights,
-            cells,
-        );
-        if p.full {
-            return Arguments {
-                entries: numbers,
-                count,
-                full: true,
-            };
-        }
+            index,
+        )?;
         numbers[j] = p.entry;
         count = p.count;
-        j += 1;
     }
-    Arguments {
+    Ok(Arguments {
         entries: numbers,
         count,
-        full: false,
-    }
+    })
 }
 
 // Turns the entry `e` in row `i`, where its argument pairs are placed: it takes the symbol and the count of the term `l`.
@@ -87,14 +74,6 @@ fn turn(rows: &[u32], entries: &mut [u32], i: usize, l: usize, e: Entry, args: A
     requires { ToTurn rows.now entries.old i l }
     ensures { IsTurned rows.now entries.old entries.new i l e args result }
 {
-    let count = args.count;
-    if args.full {
-        return Visited {
-            turned: true,
-            count,
-            full: true,
-        };
-    }
     let row = TERM_WORDS * l;
     let numbers = args.entries;
     let common = Entry {
@@ -109,12 +88,12 @@ fn turn(rows: &[u32], entries: &mut [u32], i: usize, l: usize, e: Entry, args: A
     layout::entry::put_entry(entries, i, common);
     Visited {
         turned: true,
-        count,
-        full: false,
+        count: args.count,
     }
 }
 
-// Visits entry `i`: a hole whose sides stand for terms of one symbol and one count turns common.
+// Visits entry `i`: a hole whose sides stand for terms of one symbol and one count turns common; 11 where its argument pairs need
+// more entries than the capacity.
 pub fn visit(
     rows: &[u32],
     roots: &[u32],
@@ -123,35 +102,30 @@ pub fn visit(
     capacity: usize,
     m: usize,
     i: usize,
-    lefts: &mut [u32],
-    rights: &mut [u32],
-    cells: &mut [u32],
-) -> Visited
-    requires { GivenTable (ToVisit rows.now roots.now names.now entries.old lefts.old rights.old cells.old capacity m i) }
-    ensures { Whatever (ToVisit rows.now roots.now names.now entries.old lefts.old rights.old cells.old capacity m i)
-        (IsVisited entries.new lefts.new rights.new cells.new capacity i result) }
+    index: &mut Index,
+) -> Result<Visited, Refusal>
+    requires { GivenTable (ToVisit rows.now roots.now names.now entries.old index.old.lefts.now index.old.rights.now index.old.cells.now capacity m i) }
+    ensures visited { Whatever (ToVisit rows.now roots.now names.now entries.old index.old.lefts.now index.old.rights.now index.old.cells.now capacity m i)
+        (IsVisited entries.new index.new.lefts.now index.new.rights.now index.new.cells.now capacity i result) }
+    ensures same_slices { SameSlices index.old index.new }
 {
     let e = layout::entry::entry_at(entries, i);
     if e.kind != 0 {
-        return Visited {
+        return Ok(Visited {
             turned: false,
             count: m,
-            full: false,
-        };
+        });
     }
     let left = e.left as usize;
     let right = e.right as usize;
     let l = roots[left] as usize;
     let r = roots[right] as usize;
     if !layout::limits::alike(rows, l, r) {
-        return Visited {
+        return Ok(Visited {
             turned: false,
             count: m,
-            full: false,
-        };
+        });
     }
-    let args = place_all(
-        rows, names, entries, capacity, m, l, r, lefts, rights, cells,
-    );
-    turn(rows, entries, i, l, e, args)
+    let args = place_all(rows, names, entries, capacity, m, l, r, index)?;
+    Ok(turn(rows, entries, i, l, e, args))
 }

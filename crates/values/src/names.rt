@@ -11,6 +11,8 @@ ghost use Rattle.values.specs.roots.Reading.{Listed};
 ghost use Rattle.values.specs.names.Keys.{mixed, hash_from, key_at, Row, Rows, Earlier};
 ghost use Rattle.values.specs.names.Classes.{Classable, class_of, Scratch, SameClasses, Seen, Nameable, lowest_same};
 
+use crate::term;
+
 // The hash `h` with `c` in it. `c` is in the factor too, so that what it changes depends on the numbers before it: a hash that is
 // linear in them could be met by lists built for it.
 fn mix(h: u64, c: u32) -> u64
@@ -18,8 +20,8 @@ fn mix(h: u64, c: u32) -> u64
 {
     let low = h % 4294967296;
     let high = h / 4294967296;
-    let factor = 2654435843 + (c as u64) % 1073741824;
-    low * factor + high + c as u64
+    let factor = 2654435843 + u64::from(c) % 1073741824;
+    low * factor + high + u64::from(c)
 }
 
 // The hash of `symbol` and the classes of `args`.
@@ -27,12 +29,9 @@ fn application_hash(symbol: u32, args: &[u32], classes: &[u32]) -> u64
     requires { (j : ℕ) → j < length args.now → at args.now j < length classes.now }
     ensures { result ≡ hash_from symbol (map (at classes.now) args.now) }
 {
-    let mut h = symbol as u64;
-    let mut j = 0;
-    while j < args.len() {
-        let a = args[j] as usize;
-        h = mix(h, classes[a]);
-        j += 1;
+    let mut h = u64::from(symbol);
+    for a in args {
+        h = mix(h, classes[*a as usize]);
     }
     h
 }
@@ -42,14 +41,11 @@ fn key_hash(rows: &[u32], classes: &[u32], t: u32) -> u64
     requires { Row rows.now (length classes.now) t }
     ensures { result ≡ hash_from 0 (key_at rows.now classes.now t) }
 {
-    let row = layout::limits::TERM_WORDS * (t as usize);
-    let symbol = rows[row];
+    let symbol = term::symbol(rows, t);
     if symbol == 0 {
         return 0;
     }
-    let first = row + 2;
-    let end = first + rows[row + 1] as usize;
-    application_hash(symbol, &rows[first..end], classes)
+    application_hash(symbol, term::arguments(rows, t), classes)
 }
 
 // Whether the classes of `args` and of `others` are the same, one by one.
@@ -61,14 +57,10 @@ fn same_classes(args: &[u32], others: &[u32], classes: &[u32]) -> bool
     if args.len() != others.len() {
         return false;
     }
-    let mut j = 0;
-    while j < args.len() {
-        let a = args[j] as usize;
-        let o = others[j] as usize;
-        if classes[a] != classes[o] {
+    for (a, o) in args.iter().zip(others) {
+        if classes[*a as usize] != classes[*o as usize] {
             return false;
         }
-        j += 1;
     }
     true
 }
@@ -79,46 +71,42 @@ fn same_key(rows: &[u32], classes: &[u32], t: u32, u: u32) -> bool
     requires application { at rows.now (term_words * t) ≡ 0 → ⊥ }
     ensures { result ≡ eq_numbers (key_at rows.now classes.now t) (key_at rows.now classes.now u) }
 {
-    let row = layout::limits::TERM_WORDS * (t as usize);
-    let other = layout::limits::TERM_WORDS * (u as usize);
-    if rows[row] != rows[other] {
+    if term::symbol(rows, t) != term::symbol(rows, u) {
         return false;
     }
-    let first = row + 2;
-    let end = first + rows[row + 1] as usize;
-    let first_other = other + 2;
-    let end_other = first_other + rows[other + 1] as usize;
-    same_classes(&rows[first..end], &rows[first_other..end_other], classes)
+    same_classes(term::arguments(rows, t), term::arguments(rows, u), classes)
 }
 
-// The place of a term with the key of the application `t` among the first `k` of the list, or else `k`.
-fn search_keys(rows: &[u32], classes: &[u32], list: &[u32], k: usize, t: u32) -> usize
+// The place of a term with the key of the application `t` among the first `k` of the list.
+fn search_keys(rows: &[u32], classes: &[u32], list: &[u32], k: usize, t: u32) -> Option<usize>
     requires rows { Rows rows.now (length classes.now) list.now k × Row rows.now (length classes.now) t }
     requires application { at rows.now (term_words * t) ≡ 0 → ⊥ }
     ensures { Earlier rows.now classes.now list.now k t result }
 {
-    let mut j = 0;
-    while j < k {
-        if same_key(rows, classes, t, list[j]) {
-            return j;
-        }
-        j += 1;
-    }
-    k
+    list[..k]
+        .iter()
+        .position(|u| same_key(rows, classes, t, *u))
 }
 
 // The same, where `place` is the only place to look at if the hash of no other key is that of `t`, or `k` if that of none is.
-fn earlier(rows: &[u32], classes: &[u32], list: &[u32], k: usize, t: u32, place: usize) -> usize
+fn earlier(
+    rows: &[u32],
+    classes: &[u32],
+    list: &[u32],
+    k: usize,
+    t: u32,
+    place: usize,
+) -> Option<usize>
     requires rows { Rows rows.now (length classes.now) list.now k × Row rows.now (length classes.now) t }
     requires application { at rows.now (term_words * t) ≡ 0 → ⊥ }
     requires place { (place ≤ k) × (place ≡ k → (j : ℕ) → j < k → key_at rows.now classes.now t ≡ key_at rows.now classes.now (at list.now j) → ⊥) }
     ensures { Earlier rows.now classes.now list.now k t result }
 {
     if place == k {
-        return k;
+        return None;
     }
     if same_key(rows, classes, t, list[place]) {
-        return place;
+        return Some(place);
     }
     search_keys(rows, classes, list, k, t)
 }
@@ -137,20 +125,16 @@ fn class_of(
     ensures { result ≡ class_of rows.now bindings.now list.now n (at list.now k) }
 {
     let t = list[k];
-    let i = t as usize;
-    if rows[layout::limits::TERM_WORDS * i] != 0 {
-        let j = earlier(rows, classes, list, k, t, place);
-        if j == k {
-            return t;
-        }
-        let u = list[j] as usize;
-        return classes[u];
+    if term::symbol(rows, t) != 0 {
+        return match earlier(rows, classes, list, k, t, place) {
+            Some(j) => classes[list[j] as usize],
+            None => t,
+        };
     }
-    let bound = bindings[i];
-    if bound == 0 {
-        return t;
+    match term::bound(bindings, t) {
+        Some(u) => classes[u as usize],
+        None => t,
     }
-    classes[(bound - 1) as usize]
 }
 
 // The class of each of the `n` terms, into `classes`. The other slices are scratch.
@@ -169,16 +153,12 @@ fn classify(
     ensures { SameClasses (book_of rows.now n) (bound_of bindings.now n) classes.new n }
 {
     layout::clearing::clear(cells, pairs::BUCKETS);
-    let mut k = 0;
-    while k < n as usize {
-        let t = list[k];
-        let h = key_hash(rows, classes, t);
+    for (k, t) in list[..n as usize].iter().enumerate() {
+        let h = key_hash(rows, classes, *t);
         let high = (h / 4294967296) as u32;
         let low = (h % 4294967296) as u32;
         let place = pairs::push(lefts, rights, cells, k, high, low);
-        let class = class_of(rows, bindings, n, classes, list, k, place);
-        classes[t as usize] = class;
-        k += 1;
+        classes[*t as usize] = class_of(rows, bindings, n, classes, list, k, place);
     }
 }
 
@@ -202,14 +182,12 @@ fn lowest_of_class(classes: &[u32], n: u32, names: &mut [u32], firsts: &mut [u32
     requires { Nameable classes.now names.old firsts.old n }
     ensures { names.new ≡ map (lowest_same classes.now n) (from 0 n) ++ drop n names.old }
 {
-    let mut t = 0;
-    while t < n {
+    for t in 0..n {
         let i = t as usize;
         let class = classes[i] as usize;
         let low = seen_or(classes, firsts[class], t);
         firsts[class] = low;
         names[i] = low;
-        t += 1;
     }
 }
 

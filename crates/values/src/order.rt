@@ -7,20 +7,24 @@ ghost use Rattle.layout.specs.limits.Rows.{book_of, bound_of, GoodTerms};
 ghost use Rattle.values.specs.order.Order.{Ordered};
 ghost use Rattle.values.specs.order.Marking.{parts_in, Walkable, WalkAnswers};
 
+use crate::term;
+
+// The marks of a term, behind the 0 that clearing writes: while it is walked, and once it is finished. They are words, since
+// what is lent for them is scratch of words.
+const IN_PROGRESS: u32 = 1;
+
+const FINISHED: u32 = 2;
+
 // How many terms the value of `t` is made of, one step down.
 fn part_count(rows: &[u32], bindings: &[u32], n: u32, t: u32) -> usize
     requires good_terms { GoodTerms rows.now bindings.now n }
     requires t_lt_n { t < n }
     ensures { result ≡ length (parts_in rows.now bindings.now n t) }
 {
-    let row = layout::limits::TERM_WORDS * (t as usize);
-    if rows[row] != 0 {
-        return rows[row + 1] as usize;
+    if term::symbol(rows, t) != 0 {
+        return term::arguments(rows, t).len();
     }
-    if bindings[t as usize] == 0 {
-        return 0;
-    }
-    1
+    usize::from(term::bound(bindings, t).is_some())
 }
 
 // The `i`-th of them.
@@ -30,21 +34,14 @@ fn part(rows: &[u32], bindings: &[u32], n: u32, t: u32, i: usize) -> u32
     requires i_in_bounds { i < length (parts_in rows.now bindings.now n t) }
     ensures { result ≡ get_or (parts_in rows.now bindings.now n t) i 0 }
 {
-    let row = layout::limits::TERM_WORDS * (t as usize);
-    if rows[row] != 0 {
-        return rows[row + 2 + i];
+    if term::symbol(rows, t) != 0 {
+        return term::arguments(rows, t)[i];
     }
     bindings[t as usize] - 1
 }
 
-// Whether a walk met no term in progress, and how many terms are finished behind it.
-#[derive(Clone, Copy)]
-pub struct Walk {
-    pub ok: bool,
-    pub done: u32,
-}
-
-// Walks term `t`: what its value is made of first, then the term itself, at the next place of the list.
+// Walks term `t`: what its value is made of first, then the term itself, at the next place of the list. Answers how many terms
+// are finished behind it, or none where it met a term in progress.
 #[cycle(walk_arguments_walk_term)]
 fn walk_term(
     rows: &[u32],
@@ -54,30 +51,23 @@ fn walk_term(
     marks: &mut [u32],
     list: &mut [u32],
     done: u32,
-) -> Walk
+) -> Option<u32>
     requires { Walkable rows.now bindings.now n t marks.old list.old done }
     ensures { WalkAnswers rows.now bindings.now n (t ∷ [])
         marks.old marks.new list.new result }
 {
     let mark = marks[t as usize];
-    if mark == 2 {
-        return Walk { ok: true, done };
+    if mark == FINISHED {
+        return Some(done);
     }
-    if mark == 1 {
-        return Walk { ok: false, done };
+    if mark == IN_PROGRESS {
+        return None;
     }
-    marks[t as usize] = 1;
-    let w = walk_arguments(rows, bindings, n, t, marks, list, done);
-    if !w.ok {
-        return w;
-    }
-    let place = w.done;
-    marks[t as usize] = 2;
+    marks[t as usize] = IN_PROGRESS;
+    let place = walk_arguments(rows, bindings, n, t, marks, list, done)?;
+    marks[t as usize] = FINISHED;
     list[place as usize] = t;
-    Walk {
-        ok: true,
-        done: place + 1,
-    }
+    Some(place + 1)
 }
 
 // Walks what the value of `t` is made of, one term after the other. Most are finished already, and need no call.
@@ -90,31 +80,20 @@ fn walk_arguments(
     marks: &mut [u32],
     list: &mut [u32],
     done: u32,
-) -> Walk
+) -> Option<u32>
     requires { Walkable rows.now bindings.now n t marks.old list.old done }
     ensures { WalkAnswers rows.now bindings.now n
         (parts_in rows.now bindings.now n t)
         marks.old marks.new list.new result }
 {
-    let count = part_count(rows, bindings, n, t);
     let mut place = done;
-    let mut i = 0;
-    while i < count {
+    for i in 0..part_count(rows, bindings, n, t) {
         let u = part(rows, bindings, n, t, i);
-        i += 1;
-        if marks[u as usize] == 2 {
-            continue;
+        if marks[u as usize] != FINISHED {
+            place = walk_term(rows, bindings, n, u, marks, list, place)?;
         }
-        let w = walk_term(rows, bindings, n, u, marks, list, place);
-        if !w.ok {
-            return w;
-        }
-        place = w.done;
     }
-    Walk {
-        ok: true,
-        done: place,
-    }
+    Some(place)
 }
 
 // Whether no value contains itself; then the list has the `n` terms, each behind what its value is made of. The marks are
@@ -129,14 +108,11 @@ pub fn order(rows: &[u32], bindings: &[u32], n: u32, marks: &mut [u32], list: &m
 {
     layout::clearing::clear(marks, n as usize);
     let mut done = 0;
-    let mut t = 0;
-    while t < n {
-        let w = walk_term(rows, bindings, n, t, marks, list, done);
-        if !w.ok {
-            return false;
+    for t in 0..n {
+        match walk_term(rows, bindings, n, t, marks, list, done) {
+            Some(place) => done = place,
+            None => return false,
         }
-        done = w.done;
-        t += 1;
     }
     true
 }

@@ -6,23 +6,22 @@ ghost use Rattle.model.specs.Lists.{from};
 ghost use Rattle.model.specs.Term.{deref_step, deref, val, occurs};
 ghost use Rattle.layout.specs.limits.Rows.{at, node_of, book_of, binding_of, bound_of};
 ghost use Rattle.values.specs.roots.Reading.{Listed, Readable};
-ghost use Rattle.values.specs.roots.Flags as Steps;
 ghost use Rattle.values.specs.roots.Flags.{flagged, any, occurs_step};
+
+use crate::term;
 
 // What term `t` stands for, where `roots` says it of the term that it may be bound to.
 fn root_of(rows: &[u32], bindings: &[u32], roots: &[u32], t: u32) -> u32
     requires { Readable rows.now bindings.now t (length roots.now) }
     ensures { result ≡ deref_step (at roots.now) t (node_of rows.now t) (binding_of bindings.now t) }
 {
-    let i = t as usize;
-    if rows[layout::limits::TERM_WORDS * i] != 0 {
+    if term::symbol(rows, t) != 0 {
         return t;
     }
-    let bound = bindings[i];
-    if bound == 0 {
-        return t;
+    match term::bound(bindings, t) {
+        Some(u) => roots[u as usize],
+        None => t,
     }
-    roots[(bound - 1) as usize]
 }
 
 // What each of the `n` terms stands for, into `roots`.
@@ -30,23 +29,9 @@ pub fn roots(rows: &[u32], bindings: &[u32], n: u32, list: &[u32], roots: &mut [
     requires { Listed rows.now bindings.now list.now n × (n ≤ length roots.old) }
     ensures { roots.new ≡ map (deref (book_of rows.now n) (bound_of bindings.now n) n) (from 0 n) ++ drop n roots.old }
 {
-    let mut k = 0;
-    while k < n as usize {
-        let t = list[k];
-        let root = root_of(rows, bindings, roots, t);
-        roots[t as usize] = root;
-        k += 1;
+    for t in &list[..n as usize] {
+        roots[*t as usize] = root_of(rows, bindings, roots, *t);
     }
-}
-
-// A flag as a word.
-fn flag(stands: bool) -> u32
-    ensures { result ≡ Steps.flag stands }
-{
-    if stands {
-        return 1;
-    }
-    0
 }
 
 // Whether one of the terms `args` has a flag that stands.
@@ -54,15 +39,7 @@ fn any_flagged(args: &[u32], flags: &[u32]) -> bool
     requires { (j : ℕ) → j < length args.now → at args.now j < length flags.now }
     ensures { result ≡ any (flagged flags.now) args.now }
 {
-    let mut j = 0;
-    while j < args.len() {
-        let a = args[j] as usize;
-        if flags[a] != 0 {
-            return true;
-        }
-        j += 1;
-    }
-    false
+    args.iter().any(|a| flags[*a as usize] != 0)
 }
 
 // Whether `v` occurs in the value of term `t`, where `flags` says it of the terms one step down.
@@ -70,21 +47,17 @@ fn occurs_step(rows: &[u32], bindings: &[u32], flags: &[u32], v: u32, t: u32) ->
     requires { Readable rows.now bindings.now t (length flags.now) }
     ensures { result ≡ occurs_step (flagged flags.now) v t (node_of rows.now t) (binding_of bindings.now t) }
 {
-    let i = t as usize;
-    let row = layout::limits::TERM_WORDS * i;
-    if rows[row] != 0 {
-        let first = row + 2;
-        let end = first + rows[row + 1] as usize;
-        return any_flagged(&rows[first..end], flags);
+    if term::symbol(rows, t) != 0 {
+        return any_flagged(term::arguments(rows, t), flags);
     }
-    let bound = bindings[i];
-    if bound == 0 {
-        return v == t;
+    match term::bound(bindings, t) {
+        Some(u) => flags[u as usize] != 0,
+        None => v == t,
     }
-    flags[(bound - 1) as usize] != 0
 }
 
-// Whether the variable `v` occurs in the value of term `t`: flags along the list, up to that term's own. `flags` is scratch.
+// Whether the variable `v` occurs in the value of term `t`: flags along the list, up to that term's own. `flags` is scratch of words,
+// so a flag is a word, 1 or 0.
 pub fn occurs_in(
     rows: &[u32],
     bindings: &[u32],
@@ -98,15 +71,12 @@ pub fn occurs_in(
     requires t_lt_n { t < n }
     ensures { result ≡ occurs v (val (book_of rows.now n) (bound_of bindings.now n) t) }
 {
-    let mut k = 0;
-    while k < n as usize {
-        let u = list[k];
-        let stands = occurs_step(rows, bindings, flags, v, u);
-        if u == t {
+    for u in &list[..n as usize] {
+        let stands = occurs_step(rows, bindings, flags, v, *u);
+        if *u == t {
             return stands;
         }
-        flags[u as usize] = flag(stands);
-        k += 1;
+        flags[*u as usize] = u32::from(stands);
     }
     flags[t as usize] != 0
 }

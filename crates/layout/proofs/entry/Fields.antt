@@ -1,11 +1,6 @@
 -- The fields of an entry that was read, as words of its row. Assumes nothing.
-use mathlib.Core.Path.{◌≡◌, ap, sym, ◌∙◌}
-use mathlib.Core.List.{List, [], ◌∷◌, ◌++◌, append_assoc}
-use Prim.Native.Nat.{ℕ, ◌+◌, ◌*◌, ◌-◌, ◌≤◌, ◌<◌}
-use native.Mathlib.Nat.{add-zero}
-use native.Mathlib.Omega.{arith}
-use lib.ListN.{length, get_or, take, drop, take-append-drop, length-append, length-drop}
-use lib.Seq.{length-take-le, take_at, drop-drop, get_or-take, get_or-drop, get_or_at}
+use Rattle.std.proofs.Common.{◌≡◌, ap, sym, ◌∙◌, List, [], ◌∷◌, ◌++◌, append_assoc, ℕ, ◌+◌, ◌*◌, ◌-◌, ◌≤◌, ◌<◌, add-zero, arith, length, get_or, take, drop, take-append-drop, length-append, length-drop, length-take-le, take_at, drop-drop, get_or-take, get_or-drop}
+use Rattle.std.proofs.Math.Seq.{get_or_at}
 use Rattle.model.specs.Limits.{max_arity}
 use Rattle.model.specs.Area.{entry_row_words}
 use Rattle.layout.specs.declared.entry.Entry.{Entry as Row}

@@ -1,5 +1,4 @@
 -- The limits that functions take are at most the office's, as their type says. Assumes nothing.
-use Rattle.model.specs.Limits.{office}
 use Rattle.theory.specs.Modest.{Modest}
 use Rattle.layout.specs.limits.Limits.{limits_of}
 use Rattle.layout.specs.declared.limits.Limits.{Limits}

@@ -1,13 +1,6 @@
 -- Two terms of one symbol and one count, by the first two words of their rows. Assumes nothing.
-use mathlib.Core.Path.{◌≡◌, refl, sym, ap}
-use mathlib.Core.List.{List}
-use mathlib.Core.Bool.{Bool, true, false, cond, ◌&&◌}
-use Prim.Native.Nat.{ℕ, ◌+◌, ◌*◌, ◌-◌, ◌≤◌}
-use native.Mathlib.Omega.{arith}
-use borrow.Author.Tests.{ne_eqb, eqb-true, eqb-false}
-use lib.ListN.{length, take, drop, length-drop}
-use lib.Seq.{length-take-le}
-use lib.Dec.{eqb, eqb→eq}
+use Rattle.std.proofs.Common.{◌≡◌, refl, sym, ap, List, Bool, true, false, cond, ◌&&◌, ℕ, ◌+◌, ◌*◌, ◌-◌, ◌≤◌, arith, ne_eqb, eqb-true, length, take, drop, length-drop, length-take-le, eqb, eqb→eq}
+use Rattle.std.proofs.lemmas.Bool.{eqb-false}
 use Rattle.model.specs.Term.{Node, var, app, alike}
 use Rattle.model.specs.Area.{term_words}
 use Rattle.theory.proofs.Lists.Laws.{true_T, same_test}
@@ -44,16 +37,16 @@ module _ (rows : List ℕ) (l r : ℕ) where
 
   -- an application is like one of the same symbol and the same count
   pub alike-words : (at rows (term_words * l) ≡ 0 → ⊥) → term_words * l + 2 + at rows (term_words * l + 1) ≤ length rows
-      → term_words * r + 2 + at rows (term_words * r + 1) ≤ length rows
-      → alike (node_of rows l) (node_of rows r) ≡
-      eqb (at rows (term_words * l)) (at rows (term_words * r)) && eqb (at rows (term_words * l + 1)) (at rows (term_words * r + 1))
+      → term_words * r + 2 + at rows (term_words * r + 1) ≤ length rows → (t : Bool) → t ≡ eqb (at rows (term_words * l)) (at rows (term_words * r))
+      → t && eqb (at rows (term_words * l + 1)) (at rows (term_words * r + 1)) ≡ alike (node_of rows l) (node_of rows r)
   unfolding node_of
-  alike-words d p q =
+  alike-words d p q t e =
       rw (
         ne_eqb (at rows (term_words * l)) 0 d,
         symbols_at (at rows (term_words * l)) (at rows (term_words * r)) _ _ d (eqb (at rows (term_words * r)) 0) refl,
         row-long rows (term_words * l) _ p,
         row-long rows (term_words * r) _ q,
+        e,
       )
 
   -- terms that are alike are applications

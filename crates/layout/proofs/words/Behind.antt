@@ -1,10 +1,6 @@
 -- Words laid behind a first part, and one run of words behind another. Assumes nothing.
-use mathlib.Core.Path.{◌≡◌, sym, ap, ◌∙◌}
-use mathlib.Core.List.{List, ◌++◌, append_assoc}
-use Prim.Native.Nat.{ℕ, ◌+◌, ◌*◌}
-use native.Mathlib.Omega.{arith}
-use lib.ListN.{length, drop, length-append}
-use lib.Seq.{take_at, drop-append-add, drop-drop}
+use Rattle.std.proofs.Common.{◌≡◌, sym, ap, ◌∙◌, List, ◌++◌, append_assoc, ℕ, ◌+◌, ◌*◌, arith, length, drop, length-append, take_at, drop-drop}
+use Rattle.std.proofs.Math.Seq.{drop-append-add}
 use Rattle.model.specs.Lists.{concat_map}
 use Rattle.model.specs.Area.{word_size, to_bytes}
 use Rattle.model.specs.Call.{over}

@@ -1,11 +1,5 @@
 -- A run of elements one by one, the word that four bytes make, and the four bytes of a word. Assumes nothing.
-use mathlib.Core.Path.{◌≡◌, sym}
-use mathlib.Core.List.{List, [], ◌∷◌, map}
-use Prim.Native.Nat.{ℕ, ◌+◌, ◌*◌, ◌/◌, ◌%◌, ◌≤◌, ◌<◌}
-use native.Mathlib.Nat.{zero-add, add-zero}
-use native.Mathlib.Omega.{arith}
-use lib.ListN.{length, get_or, take, drop, length-drop}
-use lib.Seq.{length-take-le, get_or-take, get_or-drop}
+use Rattle.std.proofs.Common.{◌≡◌, sym, List, [], ◌∷◌, map, ℕ, ◌+◌, ◌*◌, ◌/◌, ◌%◌, ◌≤◌, zero-add, add-zero, arith, length, get_or, take, drop, length-drop, length-take-le, get_or-take, get_or-drop}
 use Rattle.model.specs.Lists.{from}
 use Rattle.model.specs.Area.{to_bytes, from_bytes}
 use Rattle.theory.proofs.Lists.Rows.{map-from}
@@ -29,9 +23,9 @@ unfolding from_bytes from
 word_of l at h = rw (each l at 4 h, add-zero at) (omega arith)
 
 -- the four bytes of a word
-pub bytes_of : (w : ℕ) → w < 4294967296 → w % 256 ∷ w / 256 % 256 ∷ w / 65536 % 256 ∷ w / 16777216 ∷ [] ≡ to_bytes 4 w
+pub bytes_of : (w : ℕ) → w % 256 ∷ w / 256 % 256 ∷ w / 65536 % 256 ∷ w / 16777216 % 256 ∷ [] ≡ to_bytes 4 w
 unfolding to_bytes
-bytes_of w h =
+bytes_of w =
     let third : w / 256 / 256 ≡ w / 65536 = omega arith in
-    let fourth : w / 65536 / 256 % 256 ≡ w / 16777216 = omega arith in
+    let fourth : w / 65536 / 256 ≡ w / 16777216 = omega arith in
     rw (third, fourth)

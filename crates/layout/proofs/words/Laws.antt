@@ -1,11 +1,5 @@
 -- Loading and storing undo each other (specs/words/Laws.antt), proved. Assumes nothing.
-use mathlib.Core.Path.{◌≡◌, refl, ap}
-use mathlib.Core.List.{List, [], ◌∷◌, ◌++◌}
-use Prim.Native.Nat.{ℕ, zero, suc, ◌+◌, ◌*◌, ◌/◌, ◌%◌, ◌≤◌, ◌<◌}
-use native.Mathlib.Omega.{arith}
-use lib.Dec.{T, ltb, ltb→lt}
-use lib.ListN.{length, get_or, take, drop, length-drop, take-append-drop}
-use lib.Seq.{length-take-le, take-add, drop-drop}
+use Rattle.std.proofs.Common.{◌≡◌, refl, ap, List, [], ◌∷◌, ◌++◌, ℕ, zero, suc, ◌+◌, ◌*◌, ◌/◌, ◌%◌, ◌≤◌, ◌<◌, arith, T, ltb, ltb→lt, length, get_or, take, drop, length-drop, take-append-drop, length-take-le, take-add, drop-drop}
 use Rattle.leb128.specs.Laws.{are_bytes}
 use Rattle.model.specs.Lists.{from, concat_map}
 use Rattle.model.specs.Area.{word_size, to_bytes, from_bytes, word, words_at}

@@ -1,8 +1,5 @@
 -- The words of an area that are loaded: one of them, some of them, and one run behind another. Assumes nothing.
-use mathlib.Core.Path.{◌≡◌}
-use mathlib.Core.List.{List, ◌++◌}
-use Prim.Native.Nat.{ℕ, ◌+◌, ◌≤◌, ◌<◌}
-use lib.ListN.{get_or, take, drop}
+use Rattle.std.proofs.Common.{◌≡◌, List, ◌++◌, ℕ, ◌+◌, ◌≤◌, ◌<◌, get_or, take, drop}
 use Rattle.model.specs.Area.{word, words_at}
 use Rattle.theory.proofs.Lists.From.{get_or-map-from, map-from-append, part_map-from}
 

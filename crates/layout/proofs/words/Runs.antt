@@ -1,12 +1,7 @@
--- A run that grows by one: the words loaded, the words laid, the bytes cleared. Assumes nothing.
-use mathlib.Core.Path.{◌≡◌, refl, sym, ◌∙◌}
-use mathlib.Core.List.{List, [], ◌∷◌, ◌++◌, append_assoc, append-nil, map}
-use Prim.Native.Nat.{ℕ, zero, suc, ◌+◌, ◌*◌, ◌-◌, ◌≤◌, ◌<◌}
-use native.Mathlib.Nat.{add-zero, add-suc, suc-add, sub_self}
-use native.Mathlib.Numerals.{add-one}
-use native.Mathlib.Omega.{arith}
-use lib.ListN.{length, get_or, take, drop, set, replicate, take-append-drop, length-append, length-drop, length-map, length-replicate, replicate-append-replicate}
-use lib.Seq.{sets, sets-eq, set_at, take_at, take-suc, drop-cons, drop-drop, drop-length, append_snoc, length-take-le}
+-- A run that grows by one: the words loaded, the words laid. And bytes cleared. Assumes nothing.
+use Rattle.std.proofs.Common.{◌≡◌, refl, sym, ◌∙◌, List, [], ◌∷◌, ◌++◌, append_assoc, append-nil, map, ℕ, zero, suc, ◌+◌, ◌*◌, ◌-◌, ◌≤◌, ◌<◌, add-zero, add-suc, suc-add, add-one, arith, length, get_or, take, drop, set, replicate, take-append-drop, length-append, length-drop, take_at, take-suc, drop-cons, drop-drop, length-take-le}
+use Rattle.std.proofs.Math.ListN.{length-map}
+use Rattle.std.proofs.Math.Seq.{sets, sets-eq, set_at, append_snoc}
 use Rattle.model.specs.Lists.{from, concat_map}
 use Rattle.model.specs.Area.{word_size, to_bytes, word, words_at}
 use Rattle.layout.specs.words.Words.{laid, cleared}
@@ -37,7 +32,7 @@ module _ (area : List ℕ) (start : ℕ) where
   unfolding words_at
   length-words_at n = rw (length-map, length_from)
 
-  -- the places with the first i words loaded: with none, with one more, and with all
+  -- the places with the first i words loaded: with none, and with one more
   pub loads_none : (words : List ℕ) → words ≡ words_at area start 0 ++ drop 0 words
   unfolding words_at from
   loads_none words = refl
@@ -47,12 +42,6 @@ module _ (area : List ℕ) (start : ℕ) where
   unfolding words_at
   loads_more words i h =
       rw (set_more (words_at area start i) words i (word area (start + i)) (length-words_at i) h, add-one, words_more (word area) start i)
-
-  pub loads_all : (words : List ℕ) (i : ℕ) → i ≤ length words → length words ≤ i
-      → words_at area start i ++ drop i words ≡ words_at area start (length words)
-  loads_all words i h l =
-      let e : i ≡ length words = omega arith in
-      rw (e, drop-length) (append-nil (words_at area start (length words)))
 
 -- WORDS LAID.
 module _ (area : List ℕ) (start : ℕ) (words : List ℕ) where
@@ -103,20 +92,11 @@ lays_more area start words i h l =
     let long : length (take i words) ≡ i = length-take-le i words (omega arith) in
     rw (add-one, take-suc words i 0 l) (rw long at (lays_one area start (take i words) (get_or words i 0) (rw long (omega arith))))
 
--- BYTES CLEARED. None, and one more
-pub clears_none : (area : List ℕ) (a : ℕ) → area ≡ cleared area a a
+-- BYTES CLEARED. The part from a up to e, filled with zeros
+pub clears : (area zeros : List ℕ) (a n e : ℕ) → e ≤ length area → a + n ≡ e → zeros ≡ replicate (length (take n (drop a area))) 0
+    → take a area ++ (zeros ++ drop n (drop a area)) ≡ cleared area a e
 unfolding cleared
-clears_none area a = rw (sub_self, take-append-drop)
-
-pub clears_more : (area : List ℕ) (a i : ℕ) → a ≤ i → i < length area → set (cleared area a i) i 0 ≡ cleared area a (i + 1)
-unfolding cleared
-clears_more area a i h l =
-    let long : length (take a area ++ replicate (i - a) 0) ≡ i = rw (length-append, length-take-le a area (omega arith), length-replicate) (omega arith) in
-    let more : i + 1 - a ≡ i - a + 1 = omega arith in
-    rw (
-      ← append_assoc (take a area) (replicate (i - a) 0) (drop i area),
-      set_more (take a area ++ replicate (i - a) 0) area i 0 long l,
-      more,
-      ← replicate-append-replicate {A = ℕ} (i - a) 1 0,
-    )
-    (simp append_assoc)
+clears area zeros a n e h end filled =
+    let long : length (take n (drop a area)) ≡ n = length-take-le n (drop a area) (rw length-drop (omega arith)) in
+    let count : e - a ≡ n = omega arith in
+    rw (filled, long, drop-drop n a area, end, count)

@@ -1,14 +1,6 @@
 -- Classes that are met one after the other: one class, more behind, and the classes of a list of entries. Assumes nothing.
-use mathlib.Core.Path.{◌≡◌, refl, sym, subst, ◌∙◌}
-use mathlib.Core.List.{List, [], ◌∷◌, ◌++◌, map, map-append}
-use mathlib.Core.Bool.{Bool, true, false}
-use Prim.Native.Nat.{ℕ, ◌+◌, ◌≤◌, ◌<◌}
-use native.Mathlib.Numerals.{add-one}
-use native.Mathlib.Omega.{arith}
-use borrow.Author.Tests.{eqb-true, eqb-false}
-use lib.ListN.{length, take, set, length-append, length-set}
-use lib.Seq.{length-take-le, take-suc, take-suc-set, get_or-set_same, get_or-set_other}
-use lib.Dec.{eqb}
+use Rattle.std.proofs.Common.{◌≡◌, refl, sym, subst, ◌∙◌, List, [], ◌∷◌, ◌++◌, Bool, true, false, ℕ, ◌+◌, ◌≤◌, ◌<◌, add-one, arith, eqb-true, length, take, set, length-append, length-set, length-take-le, take-suc-set, get_or-set_same, get_or-set_other, eqb}
+use borrow.Author.Tests.{eqb-false}
 use Rattle.model.specs.Lists.{first}
 use Rattle.model.specs.Report.{meet, meet_all}
 use Rattle.theory.specs.Numbering.{Met}
@@ -91,7 +83,3 @@ module _ {m : ℕ} {met : List ℕ} {n : ℕ} where
   pub meet-more : {xs ys met' numbers' met'' numbers'' : List ℕ} {n' n'' : ℕ} → MetAll m met n xs met' numbers' n'
       → MetAll m met' n' ys met'' numbers'' n'' → MetAll m met n (xs ++ ys) met'' numbers'' n''
   meet-more {xs} {ys} p q = record { counted = q.counted; in_order = q.in_order ∙ rw (p.in_order, meet_all-append) }
-
--- f of one number more of a list
-pub map_more : (f : ℕ → ℕ) (xs : List ℕ) (j : ℕ) → j < length xs → map f (take (j + 1) xs) ≡ map f (take j xs) ++ f (at xs j) ∷ []
-map_more f xs j l = rw (add-one, take-suc xs j 0 l, map-append)

@@ -1,11 +1,5 @@
 -- What a row of a table holds: its class and its arguments. Assumes nothing.
-use mathlib.Core.Path.{◌≡◌, sym, ap, ◌∙◌}
-use mathlib.Core.List.{List, [], map}
-use Prim.Native.Nat.{ℕ, ◌+◌, ◌*◌, ◌≤◌, ◌<◌}
-use native.Mathlib.Omega.{arith}
-use borrow.Author.Tests.{eq-eqb, ne_eqb}
-use lib.ListN.{length, take, drop, length-take, length-drop}
-use lib.Seq.{length-take-le, take-take}
+use Rattle.std.proofs.Common.{◌≡◌, sym, ap, ◌∙◌, List, [], map, ℕ, ◌+◌, ◌*◌, ◌≤◌, ◌<◌, arith, eq-eqb, ne_eqb, length, take, drop, length-take, length-drop, length-take-le, take-take}
 use Rattle.model.specs.Limits.{max_arity}
 use Rattle.model.specs.Table.{hole, common, Entry, entry}
 use Rattle.model.specs.Area.{entry_row_words}

@@ -1,14 +1,8 @@
 -- The numbering as a loop: the lines' classes first, then those of the arguments of one number after the other. Assumes
 -- nothing.
-use mathlib.Core.Path.{◌≡◌, refl, sym, ◌∙◌}
-use mathlib.Core.List.{List, ◌++◌, map}
-use Prim.Native.Nat.{ℕ, zero, suc, ◌+◌, ◌-◌, ◌≤◌, ◌<◌, zero-le}
-use native.Mathlib.Nat.{sub-zero}
-use native.Mathlib.Numerals.{add-one}
-use native.Mathlib.Omega.{arith}
-use borrow.Author.Tests.{lt-ltb, le-ltb}
-use lib.ListN.{length, get_or, take, drop, replicate, length-replicate, get_or-replicate, get_or-append}
-use lib.Seq.{get_or-take}
+use Rattle.std.proofs.Common.{◌≡◌, refl, sym, ◌∙◌, List, ◌++◌, map, ℕ, zero, suc, ◌+◌, ◌-◌, ◌≤◌, ◌<◌, zero-le, add-one, arith, lt-ltb, le-ltb, length, get_or, take, drop, replicate, get_or-take}
+use Rattle.std.proofs.Math.Nat.{sub-zero}
+use Rattle.std.proofs.Math.ListN.{length-replicate, get_or-replicate, get_or-append}
 use Rattle.model.specs.Lists.{first}
 use Rattle.model.specs.Table.{Table}
 use Rattle.model.specs.Report.{class, meet_all, argument_classes, meet_arguments, order}
@@ -45,26 +39,22 @@ cleared {m} {met} {numbers} numbers' room e same =
     }
 
 -- The numbering with the arguments of the first i numbers met: n classes were met, and what is left leads to the order.
-pub record Reached (lines entries : List ℕ) (m : ℕ) (met₀ numbers₀ met numbers : List ℕ) (n i : ℕ) : Type 0 where
+pub record Reached (lines entries : List ℕ) (m : ℕ) (met numbers : List ℕ) (n i : ℕ) : Type 0 where
   pub counted : MetSoFar m met numbers n
   pub ahead : order (table_of entries m) lines ≡ meet_arguments (table_of entries m) (m - i) i (take n met)
-  pub met_size : length met ≡ length met₀
-  pub numbers_size : length numbers ≡ length numbers₀
 
 module _ {lines entries : List ℕ} {m : ℕ} where
   -- once the lines' classes are met
   pub reached_lines : {met₀ met numbers : List ℕ} {n : ℕ} → MetAll m met₀ 0 (map (class (table_of entries m)) lines) met numbers n
-      → Reached lines entries m met numbers met numbers n 0
+      → Reached lines entries m met numbers n 0
   unfolding order
   reached_lines {met₀} {met} {numbers} {n} h =
       record {
         counted = h.counted;
         ahead = rw (length-table_of entries m, h.in_order, sub-zero);
-        met_size = refl;
-        numbers_size = refl;
       }
 
-  module _ {met₀ numbers₀ met numbers : List ℕ} {n i : ℕ} (h : Reached lines entries m met₀ numbers₀ met numbers n i) where
+  module _ {met numbers : List ℕ} {n i : ℕ} (h : Reached lines entries m met numbers n i) where
     -- number i is a class
     pub number-class : i < n → at met i < m
     number-class l =
@@ -72,15 +62,13 @@ module _ {lines entries : List ℕ} {m : ℕ} where
 
     -- once the classes of its arguments are met
     pub reached_more : i < n → {met' numbers' : List ℕ} {n' : ℕ} → MetAll m met n (argument_classes (table_of entries m) (at met i)) met' numbers' n'
-        → length met' ≡ length met → length numbers' ≡ length numbers → Reached lines entries m met₀ numbers₀ met' numbers' n' (i + 1)
-    reached_more l {met'} {numbers'} {n'} g p q =
+        → Reached lines entries m met' numbers' n' (i + 1)
+    reached_more l {met'} {numbers'} {n'} g =
         let fuel : m - i ≡ suc (m - (i + 1)) = omega (arith, h.counted.few) in
         let next = arguments-next (table_of entries m) (m - (i + 1)) i (take n met) (omega (arith, counted-length h.counted)) in
         record {
           counted = g.counted;
           ahead = h.ahead ∙ rw fuel (next ∙ rw (get_or-take n met i 0 l, ← g.in_order, add-one));
-          met_size = p ∙ h.met_size;
-          numbers_size = q ∙ h.numbers_size;
         }
 
     -- where no number is left, all are numbered
@@ -90,3 +78,8 @@ module _ {lines entries : List ℕ} {m : ℕ} where
           counted = rw (length-table_of entries m) h.counted;
           in_order = sym (h.ahead ∙ arguments-end (table_of entries m) (m - i) i (take n met) (omega (arith, counted-length h.counted)));
         }
+
+-- the same of two slices that are equal
+pub numbered_now : {es : Table} {lines met numbers met' numbers' : List ℕ} {n : ℕ} → Numbered es lines met numbers n → met' ≡ met → numbers' ≡ numbers
+    → Numbered es lines met' numbers' n
+numbered_now h p q = rw (p, q) h

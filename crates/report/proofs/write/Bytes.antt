@@ -1,13 +1,7 @@
 -- The report's bytes: those before the entries, then entry after entry; each number is small, and there are few. Assumes
 -- nothing.
-use mathlib.Core.Path.{◌≡◌, refl, sym, ap, ◌∙◌}
-use mathlib.Core.List.{List, [], ◌++◌, append_assoc, append-nil}
-use Prim.Native.Nat.{ℕ, suc, ◌+◌, ◌≤◌, ◌<◌}
-use native.Mathlib.Numerals.{add-one}
-use native.Mathlib.Omega.{arith}
-use lib.ListN.{length, get_or, take, drop, length-append, take-append-drop}
-use lib.Seq.{take-suc, take-length}
-use lib.Dec.{leb, le→leb}
+use Rattle.std.proofs.Common.{◌≡◌, refl, sym, ap, ◌∙◌, List, [], ◌++◌, append_assoc, append-nil, ℕ, suc, ◌+◌, ◌≤◌, ◌<◌, add-one, arith, length, get_or, take, drop, length-append, take-append-drop, take-suc, leb, le→leb}
+use Rattle.std.proofs.Math.Seq.{take-length}
 use Rattle.leb128.specs.Number.{max_number}
 use Rattle.model.specs.Lists.{concat_map}
 use Rattle.model.specs.Step.{State}
@@ -23,18 +17,15 @@ use Rattle.report.specs.write.Shown.{classes, Tabled, head_numbers, row_numbers}
 use Rattle.report.proofs.write.Tables.{facts}
 use Rattle.report.proofs.write.Heads.{few-lines, few-classes}
 
--- a run from the front
-pub run_front : (xs : List ℕ) (n : ℕ) → run_bytes xs 0 n ≡ number_bytes (take n xs)
-unfolding run_bytes
-run_front xs n = refl
-
+-- a run of all words
 pub run_whole : (xs : List ℕ) → run_bytes xs 0 (length xs) ≡ number_bytes xs
-run_whole xs = run_front xs (length xs) ∙ rw take-length
+unfolding run_bytes
+run_whole xs = rw take-length
 
--- numbers at the front of some words, laid at the front of a slice
-pub run-laid : (words xs : List ℕ) (n : ℕ) → take n words ≡ xs → (out end : List ℕ) (r : ℕ) → Laid out 0 (run_bytes words 0 n) end r
+-- some words, laid at the front of a slice
+pub run-laid : (words xs : List ℕ) → words ≡ xs → (out end : List ℕ) (r : ℕ) → Laid out 0 (run_bytes words 0 (length words)) end r
     → (r ≡ length (number_bytes xs)) × (end ≡ number_bytes xs ++ drop r out)
-run-laid words xs n e out end r laid = laid_front out (number_bytes xs) end r (rw (run_front words n, e) at laid)
+run-laid words xs e out end r laid = laid_front out (number_bytes xs) end r (rw (run_whole words, e) at laid)
 
 -- the numbers of the first n entries
 unfoldable pub rows_numbers : State → ℕ → List ℕ

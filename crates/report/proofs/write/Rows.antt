@@ -1,11 +1,6 @@
 -- The numbers of an entry, from its row: what is read, and what they are for a hole and for a common entry. Assumes nothing.
-use mathlib.Core.Path.{◌≡◌, sym, ap, subst, ◌∙◌}
-use mathlib.Core.List.{List, [], ◌∷◌, map}
-use Prim.Native.Nat.{ℕ, suc, ◌+◌, ◌*◌, ◌≤◌, ◌<◌}
-use native.Mathlib.Numerals.{add-one}
-use native.Mathlib.Omega.{arith}
-use lib.ListN.{length, take, drop, length-map}
-use lib.Seq.{take_at}
+use Rattle.std.proofs.Common.{◌≡◌, sym, ap, subst, ◌∙◌, List, [], ◌∷◌, ◌++◌, map, append-nil, ℕ, suc, ◌+◌, ◌*◌, ◌≤◌, ◌<◌, add-one, arith, length, take, drop, take_at}
+use Rattle.std.proofs.Math.ListN.{length-map}
 use Rattle.model.specs.Limits.{max_symbol}
 use Rattle.model.specs.Term.{Node, symbol, Book, Bindings}
 use Rattle.model.specs.Table.{Kind, hole, common, Entry, Table, entry}
@@ -18,7 +13,6 @@ use Rattle.layout.specs.limits.Rows.{at, loaded_entry}
 use Rattle.layout.specs.entry.Row.{row_of}
 use Rattle.layout.specs.declared.entry.Entry.{Entry as Row}
 use Rattle.layout.proofs.entry.Fields.{left-read, right-read, kind-read, symbol-read}
-use Rattle.runs.specs.Runs.{over_at}
 use Rattle.report.specs.numbering.Numbering.{new_number}
 use Rattle.report.proofs.numbering.Rows.{row-hole, row_common, common-arguments, length-read, arguments_are}
 use Rattle.report.specs.write.Shown.{classes, Tabled, row_numbers, Shown, EntryReadable}
@@ -53,12 +47,11 @@ module _ {names entries numbers : List ℕ} {i : ℕ} (h : EntryReadable names e
     pub marked-read : Marks entries numbers (take e.count e.arguments)
     marked-read = rw (arguments_are h.fits e read k) h.marked
 
--- four numbers, and the others laid behind them
-filled : (a b c d : ℕ) (rest xs end : List ℕ) (n : ℕ) → end ≡ over_at (a ∷ b ∷ c ∷ d ∷ rest) 4 xs → length xs ≡ n → take (4 + n) end ≡ a ∷ b ∷ c ∷ d ∷ xs
-unfolding over_at
-filled a b c d rest xs end n e f =
+-- four numbers, and the others behind them
+filled : (a b c d : ℕ) (xs rest : List ℕ) (n : ℕ) → length xs ≡ n → take (4 + n) (a ∷ b ∷ c ∷ d ∷ (xs ++ rest)) ≡ a ∷ b ∷ c ∷ d ∷ xs
+filled a b c d xs rest n f =
     let more : 4 + n ≡ suc (suc (suc (suc n))) = omega arith in
-    rw (e, more, take_at xs (drop (4 + length xs) (a ∷ b ∷ c ∷ d ∷ rest)) n f)
+    rw (more, take_at xs rest n f)
 
 module _ {s : State} {names entries met numbers : List ℕ} (shown : Shown s names entries met numbers) (n : ℕ) (l : n < length met) where
   t : Tabled s entries numbers
@@ -142,9 +135,9 @@ module _ {s : State} {names entries met numbers : List ℕ} (shown : Shown s nam
           by_kind _ (row-symbol entries i (λ z. h (is-kind ∙ z))) ∙
           rw (same, argument-numbers t n within, is-left, is_right, is-symbol, add-one (at entries (entry_row_words * i + 3)), count)
 
-      -- laid behind the first four, the numbers of the arguments complete those of a common entry
-      pub common_filled : (rest end : List ℕ)
-          → end ≡ over_at (at names e.left ∷ at names e.right ∷ (e.symbol + 1) ∷ e.count ∷ rest) 4 (map (new_number entries numbers) args)
-          → take (4 + e.count) end ≡ row_numbers s n
-      common_filled rest end f =
-          filled _ _ _ _ rest _ end e.count f (rw length-map (length-read readable.fits e read h)) ∙ sym common-numbers
+      -- behind the first four, the numbers of the arguments complete those of a common entry
+      pub common_filled : (last rest : List ℕ) → last ≡ map (new_number entries numbers) args ++ rest
+          → take (4 + e.count) (at names e.left ∷ at names e.right ∷ (e.symbol + 1) ∷ e.count ∷ (last ++ [])) ≡ row_numbers s n
+      common_filled last rest f =
+          rw (append-nil, f, filled (at names e.left) (at names e.right) (e.symbol + 1) e.count (map (new_number entries numbers) args) rest e.count (rw length-map (length-read readable.fits e read h)))
+          (sym common-numbers)

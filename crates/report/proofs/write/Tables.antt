@@ -1,12 +1,7 @@
 -- What a sound state's table in rows gives: rows that can be read, and the new numbers of entries by the marks. Assumes
 -- nothing.
-use mathlib.Core.Path.{◌≡◌, refl, sym, ap, ap₂, subst, ◌∙◌}
-use mathlib.Core.List.{List, [], ◌∷◌, map}
-use Prim.Native.Nat.{ℕ, suc, ◌≤◌, ◌<◌, zero-le, suc-le-suc}
-use native.Mathlib.Omega.{arith}
-use borrow.Author.Tests.{eq-eqb}
-use lib.ListN.{length, get_or, take, length-map}
-use lib.Dec.{eqb}
+use Rattle.std.proofs.Common.{◌≡◌, refl, sym, ap, ap₂, subst, ◌∙◌, List, [], ◌∷◌, map, ℕ, suc, ◌≤◌, ◌<◌, zero-le, suc-le-suc, arith, eq-eqb, length, get_or, take, eqb}
+use Rattle.std.proofs.Math.ListN.{length-map}
 use Rattle.model.specs.Limits.{max_arity}
 use Rattle.model.specs.Lists.{first}
 use Rattle.model.specs.Table.{Entry, Table, entry}

@@ -1,10 +1,6 @@
 -- A state whose classes were just numbered: what is written of it. Assumes nothing.
-use mathlib.Core.Path.{◌≡◌, sym, ap, ◌∙◌}
-use mathlib.Core.List.{List, ◌++◌}
-use Prim.Native.Nat.{ℕ, ◌+◌, ◌≤◌}
-use native.Mathlib.Omega.{arith}
-use lib.ListN.{length, take, length-append, length-map}
-use lib.Seq.{take_at, length-take-le}
+use Rattle.std.proofs.Common.{◌≡◌, sym, ap, ◌∙◌, List, ◌++◌, ℕ, ◌+◌, ◌≤◌, arith, length, take, length-append, take_at, length-take-le}
+use Rattle.std.proofs.Math.ListN.{length-map}
 use Rattle.model.specs.Step.{State}
 use Rattle.layout.specs.limits.Rows.{table_of}
 use Rattle.report.specs.numbering.Numbering.{Entries, Closed, Numbered}

@@ -1,10 +1,5 @@
 -- Whether each pair of a table, under a function, has its first place at its own entry. Assumes nothing.
-use mathlib.Core.Path.{◌≡◌, sym}
-use mathlib.Core.List.{List}
-use mathlib.Core.Bool.{Bool, false}
-use Prim.Native.Nat.{ℕ, ◌≤◌, ◌<◌}
-use native.Mathlib.Omega.{arith}
-use lib.Dec.{T, eqb, eqb→eq}
+use Rattle.std.proofs.Common.{◌≡◌, sym, List, Bool, false, ℕ, ◌≤◌, ◌<◌, arith, T, eqb, eqb→eq}
 use Rattle.model.specs.Table.{Table}
 use Rattle.model.specs.Area.{distinct}
 use Rattle.theory.proofs.Lists.Laws.{true_T, not-T_false}

@@ -1,13 +1,5 @@
 -- The pairs of a table's sides, each number under a function, pushed in order: what each push answers. Assumes nothing.
-use mathlib.Core.Path.{◌≡◌, refl, ap, sym, ◌∙◌}
-use mathlib.Core.List.{List, ◌++◌, map}
-use Prim.Native.Nat.{ℕ, suc, ◌+◌, ◌<◌}
-use native.Mathlib.Nat.{not-suc-le-zero}
-use native.Mathlib.Numerals.{add-one}
-use native.Mathlib.Omega.{arith}
-use borrow.Author.Count.{below_more}
-use lib.ListN.{length, get_or, drop, set, replicate, length-set}
-use lib.Dec.{T}
+use Rattle.std.proofs.Common.{◌≡◌, refl, ap, sym, ◌∙◌, List, ◌++◌, map, ℕ, ◌+◌, ◌<◌, not-suc-le-zero, add-one, arith, below_more, length, get_or, drop, set, replicate, T}
 use Rattle.model.specs.Term.{Book, Bindings, name}
 use Rattle.model.specs.Table.{Entry, Table, hole_at, entry, entry_of}
 use Rattle.model.specs.Area.{distinct}
@@ -16,7 +8,7 @@ use Rattle.theory.proofs.Table.Search.{get_or-map-lt}
 use Rattle.pairs.specs.Pairs.{place_of}
 use Rattle.pairs.specs.Index.{buckets, Room, Indexed, Pushed}
 use Rattle.pairs.proofs.Laws.{Holds, Kept, place-least, place_none, place_at, place_kept, kept_set, holds-set}
-use Rattle.pairs.proofs.Rooms.{room_kept, room_fewer}
+use Rattle.pairs.proofs.Rooms.{room_kept}
 use Rattle.pairs.proofs.Growth.{indexed-none}
 use Rattle.soundness.specs.kinds.Sides.{SideNames}
 use Rattle.soundness.proofs.kinds.Names.{entry_of-place}
@@ -37,14 +29,6 @@ pub record Filled (f : ℕ → ℕ) (es : Table) (lefts rights cells : List ℕ)
   pub indexed : Indexed lefts rights cells i
   pub kept : Kept (lefts_by f es) (rights_by f es) lefts rights i
 
--- And there is room for all, in slices of the lengths that they had.
-pub record Filling (f : ℕ → ℕ) (es : Table) (lefts₀ rights₀ cells₀ lefts rights cells : List ℕ) (i : ℕ) : Type 0 where
-  pub filled : Filled f es lefts rights cells i
-  pub room : Room lefts rights cells (length es)
-  pub lefts_size : length lefts ≡ length lefts₀
-  pub rights_size : length rights ≡ length rights₀
-  pub cells_size : length cells ≡ length cells₀
-
 module _ (f : ℕ → ℕ) (es : Table) where
   -- entry i has its pair at place i
   side_pair : (i : ℕ) → i < length es → Holds (lefts_by f es) (rights_by f es) i (f (entry es i).left) (f (entry es i).right)
@@ -56,18 +40,12 @@ module _ (f : ℕ → ℕ) (es : Table) where
       }
 
   -- none are pushed
-  pub filling_none : {lefts rights cells cells₀ : List ℕ} {m : ℕ} → length es ≡ m → Room lefts rights cells m
-      → cells₀ ≡ replicate buckets 0 ++ drop buckets cells → length cells₀ ≡ length cells → Filling f es lefts rights cells₀ lefts rights cells₀ 0
-  filling_none {cells = cells} size room e same =
+  pub filled_none : {lefts rights cells cells₀ : List ℕ} {m : ℕ} → Room lefts rights cells₀ m
+      → cells ≡ replicate buckets 0 ++ drop buckets cells₀ → length cells ≡ length cells₀ → Filled f es lefts rights cells 0
+  filled_none {cells₀ = cells₀} room e same =
       record {
-        filled = record {
-          indexed = indexed-none (room_kept room refl refl same) cells e;
-          kept = record { left = λ j l. absurd (not-suc-le-zero l); right = λ j l. absurd (not-suc-le-zero l) };
-        };
-        room = rw size (room_kept room refl refl same);
-        lefts_size = refl;
-        rights_size = refl;
-        cells_size = refl;
+        indexed = indexed-none (room_kept room refl refl same) cells₀ e;
+        kept = record { left = λ j l. absurd (not-suc-le-zero l); right = λ j l. absurd (not-suc-le-zero l) };
       }
 
   -- one more is pushed: the answer, and the pairs after it
@@ -78,7 +56,7 @@ module _ (f : ℕ → ℕ) (es : Table) where
     unfolding place_by
     filled_place = p.place ∙ rw (l, h) (place_kept s.kept i _ _ (omega arith))
 
-    filled_more : i < length lefts → i < length rights → Filled f es lefts' rights' cells' (i + 1)
+    pub filled_more : i < length lefts → i < length rights → Filled f es lefts' rights' cells' (i + 1)
     filled_more room-left room-right =
         let own = side_pair i there in
         let new = holds-set lefts rights i a b room-left room-right in
@@ -92,30 +70,6 @@ module _ (f : ℕ → ℕ) (es : Table) where
                 (new.right ∙ h ∙ sym own.right);
           };
         })
-
-  -- the slices have room for one more
-  module _ {lefts₀ rights₀ cells₀ lefts rights cells : List ℕ} {i : ℕ} (there : i < length es)
-      (s : Filling f es lefts₀ rights₀ cells₀ lefts rights cells i) where
-    pub push_room : Room lefts rights cells (suc i)
-    push_room = room_fewer there s.room
-
-    pub filling_more : {lefts' rights' cells' : List ℕ} {a b r : ℕ} → Pushed lefts rights lefts' rights' cells' i a b r
-        → length cells' ≡ length cells → a ≡ f (entry es i).left → b ≡ f (entry es i).right
-        → Filling f es lefts₀ rights₀ cells₀ lefts' rights' cells' (i + 1)
-    filling_more {lefts'} {rights'} p n l h =
-        record {
-          filled = filled_more there s.filled p l h push_room.lefts_fit push_room.rights_fit;
-          room = room_kept s.room left right n;
-          lefts_size = left ∙ s.lefts_size;
-          rights_size = right ∙ s.rights_size;
-          cells_size = n ∙ s.cells_size;
-        }
-      where
-        left : length lefts' ≡ length lefts
-        left = rw (p.left, length-set)
-
-        right : length rights' ≡ length rights
-        right = rw (p.right, length-set)
 
   -- under names the answer is the lowest entry with the values of entry i
   module _ (b : Book) (β : Bindings) (named : (t : ℕ) → t < length b → f t ≡ name b β t)

@@ -1,9 +1,5 @@
 -- The tests of a whole table: same-as by the places of names, and all tests together. Assumes nothing.
-use mathlib.Core.Path.{◌≡◌}
-use mathlib.Core.List.{List}
-use mathlib.Core.Bool.{◌&&◌}
-use Prim.Native.Nat.{ℕ, ◌+◌, ◌*◌, ◌-◌, ◌<◌}
-use lib.Dec.{eqb}
+use Rattle.std.proofs.Common.{◌≡◌, List, ◌&&◌, ℕ, ◌+◌, ◌*◌, ◌-◌, ◌<◌, eqb}
 use Rattle.model.specs.Lists.{all}
 use Rattle.model.specs.Term.{Book, Bindings}
 use Rattle.model.specs.Table.{Table, entry}

@@ -1,20 +1,15 @@
 -- The argument entries of a common entry, one by one. Assumes nothing.
-use mathlib.Core.Path.{◌≡◌}
-use mathlib.Core.List.{List}
-use mathlib.Core.Bool.{Bool, true, false}
-use Prim.Native.Nat.{ℕ, ◌≤◌, ◌<◌}
-use native.Mathlib.Omega.{arith}
-use lib.ListN.{length, get_or}
-use lib.Dec.{T, ltb, lt→ltb}
+use Rattle.std.proofs.Common.{◌≡◌, List, Bool, true, false, ℕ, length, get_or, T, ltb, lt→ltb}
+use Rattle.model.specs.Lists.{all, from}
 use Rattle.model.specs.Term.{Book, Bindings}
 use Rattle.model.specs.Table.{Table, entry, holds}
 use Rattle.model.specs.Area.{arguments_ok}
-use Rattle.theory.proofs.Lists.Laws.{T_true, true_T, not-T_false}
+use Rattle.theory.proofs.Lists.Laws.{T_true, true_T, not-T_false, same_test}
 use Rattle.theory.proofs.Lists.Conjunctions.{and₂}
 use Rattle.theory.proofs.Soundness.Facts.{Has}
+use Rattle.theory.proofs.Soundness.Terms.{all-below, below_all}
 use Rattle.theory.proofs.Soundness.Table.{has_facts, argument_facts, facts_argument}
 use Rattle.theory.proofs.Values.Equations.{eq-holds}
-use Rattle.soundness.proofs.rows.Loops.{Passed}
 use Rattle.soundness.specs.kinds.KindTests.{argument_right}
 
 module _ (b : Book) (β : Bindings) (es : Table) where
@@ -38,19 +33,16 @@ module _ (b : Book) (β : Bindings) (es : Table) where
     abbrev pub argument_at : ℕ → Bool
     argument_at j = argument_right b β es (get_or is j 0) (get_or ls j 0) (get_or rs j 0)
 
-    -- the counts differ, one entry is not right, or all are
+    -- the counts differ, or each entry is tested
     pub other_left : (length is ≡ length ls → ⊥) → arguments_ok b β es is ls rs ≡ false
     other_left d = not-T_false _ (λ h. d (argument_facts b β es is ls rs h).count_left)
 
     pub other_right : (length is ≡ length rs → ⊥) → arguments_ok b β es is ls rs ≡ false
     other_right d = not-T_false _ (λ h. d (argument_facts b β es is ls rs h).count-right)
 
-    pub argument_failed : (j : ℕ) → j < length is → argument_at j ≡ false → arguments_ok b β es is ls rs ≡ false
-    argument_failed j l e = not-T_false _ (λ h. rw e at (has_argument _ _ _ ((argument_facts b β es is ls rs h).argument j l)))
-
-    pub arguments_passed : (j : ℕ) → length is ≤ j → length is ≡ length ls → length is ≡ length rs → Passed argument_at j
-        → arguments_ok b β es is ls rs ≡ true
-    arguments_passed j l p q h =
-        T_true _
-        (facts_argument b β es is ls rs
-        (record { count_left = p; count-right = q; argument = λ u k. argument_has _ _ _ (h u (omega arith)) }))
+    pub arguments_all : length is ≡ length ls → length is ≡ length rs → arguments_ok b β es is ls rs ≡ all argument_at (from 0 (length is))
+    arguments_all p q =
+        same_test (arguments_ok b β es is ls rs) (all argument_at (from 0 (length is)))
+        (λ h. below_all argument_at (length is) (λ j l. has_argument _ _ _ ((argument_facts b β es is ls rs h).argument j l)))
+        (λ h. facts_argument b β es is ls rs
+        (record { count_left = p; count-right = q; argument = λ j l. argument_has _ _ _ (T_true _ (all-below argument_at (length is) h j l)) }))

@@ -1,12 +1,5 @@
 -- The kind of an entry, by the words of its row and of the rows of two terms. Assumes nothing.
-use mathlib.Core.Path.{◌≡◌}
-use mathlib.Core.List.{List}
-use mathlib.Core.Bool.{Bool, true, false, cond, ◌&&◌}
-use Prim.Native.Nat.{ℕ, ◌+◌, ◌*◌, ◌-◌, ◌<◌}
-use native.Mathlib.Nat.{add-sub_cancel_left}
-use borrow.Author.Tests.{ne_eqb}
-use lib.ListN.{length, take, drop}
-use lib.Dec.{eqb}
+use Rattle.std.proofs.Common.{◌≡◌, List, Bool, true, false, cond, ◌&&◌, ℕ, ◌+◌, ◌*◌, ◌-◌, ◌<◌, ne_eqb, length, take, drop, eqb}
 use Rattle.model.specs.Term.{Node, symbol, arguments, alike, Book, Bindings}
 use Rattle.model.specs.Table.{hole, common, Table}
 use Rattle.model.specs.Area.{term_words, arguments_ok, kind_ok}
@@ -46,11 +39,11 @@ module _ (b : Book) (β : Bindings) (es : Table) (entries rows : List ℕ) (k l 
 
 -- what the test of the arguments asks: those of two terms that are alike are terms
 pub arguments-known : {b : Book} {β : Bindings} {rows names entries : List ℕ} {m : ℕ} → RowsKnown b β rows names entries m
-    → (l r : ℕ) → l < length b → r < length b → alike (node_of rows l) (node_of rows r) ≡ true → Named b β names entries m
-    × Terms b (take (term_words * l + 2 + at rows (term_words * l + 1) - (term_words * l + 2)) (drop (term_words * l + 2) rows))
-    × Terms b (take (term_words * r + 2 + at rows (term_words * r + 1) - (term_words * r + 2)) (drop (term_words * r + 2) rows))
-arguments-known {rows = rows} k l r p q e = (
+    → (l r : ℕ) → l < length b → r < length b → alike (node_of rows l) (node_of rows r) ≡ true → {ls rs : List ℕ}
+    → ls ≡ take (at rows (term_words * l + 1)) (drop (term_words * l + 2) rows) → rs ≡ take (at rows (term_words * r + 1)) (drop (term_words * r + 2) rows)
+    → Named b β names entries m × Terms b ls × Terms b rs
+arguments-known {rows = rows} k l r p q e f g = (
   k.named,
-  rw add-sub_cancel_left (argument-terms k l p (left-applied rows l r e)),
-  rw add-sub_cancel_left (argument-terms k r q (right-applied rows l r e)),
+  rw f (argument-terms k l p (left-applied rows l r e)),
+  rw g (argument-terms k r q (right-applied rows l r e)),
 )

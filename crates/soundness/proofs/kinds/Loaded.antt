@@ -1,11 +1,6 @@
 -- A loaded table is known once its rows pass and its roots and names are computed. Assumes nothing.
-use mathlib.Core.Path.{◌≡◌, sym, ◌∙◌}
-use mathlib.Core.List.{List, ◌++◌, map}
-use Prim.Native.Nat.{ℕ, ◌*◌, ◌≤◌, ◌<◌}
-use native.Mathlib.Nat.{zero-add}
-use native.Mathlib.Omega.{arith}
-use lib.ListN.{length, length-append, get_or-append}
-use lib.Dec.{T, eqb}
+use Rattle.std.proofs.Common.{◌≡◌, sym, ◌∙◌, List, ◌++◌, map, ℕ, ◌*◌, ◌≤◌, ◌<◌, zero-add, arith, length, length-append, T, eqb}
+use Rattle.std.proofs.Math.ListN.{get_or-append}
 use Rattle.model.specs.Lists.{from}
 use Rattle.model.specs.Term.{deref, name, acyclic}
 use Rattle.model.specs.Area.{entry_row_words, terms_ok}

@@ -1,11 +1,6 @@
 -- Values by their names: an entry holds the values of two terms where its sides have their names, and the lowest such entry is the
 -- first place of the pair of names. Assumes nothing.
-use mathlib.Core.Path.{◌≡◌, sym}
-use mathlib.Core.List.{List}
-use mathlib.Core.Bool.{◌&&◌}
-use Prim.Native.Nat.{ℕ, ◌<◌}
-use lib.ListN.{length}
-use lib.Dec.{eqb, eqb→eq}
+use Rattle.std.proofs.Common.{◌≡◌, sym, List, ◌&&◌, ℕ, ◌<◌, length, eqb, eqb→eq}
 use Rattle.model.specs.Term.{Book, Bindings, eq_tree, val, name}
 use Rattle.model.specs.Table.{Entry, Table, hole_at, entry, holds, entry_of}
 use Rattle.pairs.specs.Pairs.{pair_at, pairs_of, is_pair, place_of}

@@ -1,13 +1,5 @@
 -- What the rows of entries and of terms hold, where their names and roots are known. Assumes nothing.
-use mathlib.Core.Path.{◌≡◌, ap, ◌∙◌}
-use mathlib.Core.List.{List}
-use mathlib.Core.Bool.{false, ◌&&◌}
-use Prim.Native.Nat.{ℕ, ◌+◌, ◌*◌, ◌-◌, ◌≤◌, ◌<◌}
-use native.Mathlib.Omega.{arith}
-use borrow.Author.Tests.{lt-ltb, le-ltb}
-use lib.ListN.{length, get_or, take, drop}
-use lib.Seq.{take-take}
-use lib.Dec.{eqb, ltb→lt}
+use Rattle.std.proofs.Common.{◌≡◌, ap, ◌∙◌, List, false, ◌&&◌, ℕ, ◌+◌, ◌*◌, ◌-◌, ◌≤◌, ◌<◌, arith, lt-ltb, le-ltb, length, get_or, take, drop, take-take, eqb, ltb→lt}
 use Rattle.model.specs.Limits.{max_arity}
 use Rattle.model.specs.Lists.{all, from}
 use Rattle.model.specs.Term.{var, arguments, Book, Bindings, root}
@@ -22,7 +14,7 @@ use Rattle.theory.proofs.Values.Equations.{deref-lt}
 use Rattle.layout.specs.limits.Rows.{at, node_of, kind_of, loaded_entry, table_of}
 use Rattle.layout.specs.entry.Row.{row_of}
 use Rattle.layout.specs.declared.entry.Entry.{Entry as Row}
-use Rattle.layout.proofs.entry.Fields.{left-read, right-read, kind-read, symbol-read, count-read, arguments-long, arguments-read}
+use Rattle.layout.proofs.entry.Fields.{left-read, right-read, kind-read, symbol-read, count-read, arguments-read}
 use Rattle.layout.proofs.limits.Rows.{length-table_of, get_or-book_of, get_or-table_of, node-app}
 use Rattle.soundness.specs.rows.RowTests.{zero_from, entry_row_ok, entry_rows_ok}
 use Rattle.soundness.proofs.sound.Facts.{EntryRow}
@@ -96,11 +88,8 @@ module _ {b : Book} {β : Bindings} {names entries : List ℕ} {m : ℕ} (k : Na
     pub is-symbol : e.symbol ≡ at entries (entry_row_words * i + 2 + 1)
     is-symbol = let there : entry_row_words * i + 2 + 1 ≡ entry_row_words * i + 3 = omega arith in rw there (symbol-read entries i row_within e read)
 
-    few : e.count ≤ max_arity
+    pub few : e.count ≤ max_arity
     few = rw (count-read entries i row_within e read) row.count
-
-    pub places : e.count ≤ length e.arguments
-    places = rw (arguments-long entries i row_within e read) few
 
     pub are_arguments : take e.count e.arguments ≡ take (at entries (entry_row_words * i + 2 + 2)) (drop (entry_row_words * i + 2 + 3) entries)
     are_arguments =

@@ -1,13 +1,8 @@
 -- Parts of a list: from place a up to place e, the first of a run, and a run without its first places.
 -- Assumes nothing.
-use mathlib.Core.Path.{◌≡◌}
-use mathlib.Core.List.{List, [], ◌∷◌}
-use Prim.Native.Nat.{ℕ, zero, suc, ◌+◌, ◌-◌, ◌<◌, ◌≤◌}
-use native.Mathlib.Nat.{sub-zero, suc-sub-suc, zero-sub, add-sub_cancel_left}
-use native.Mathlib.Numerals.{add-one}
-use native.Mathlib.Omega.{arith}
-use lib.ListN.{length, get_or, take, drop, length-drop}
-use lib.Seq.{take-nil, drop-cons, drop-drop, length-take-le}
+use Rattle.std.proofs.Common.{◌≡◌, List, [], ◌∷◌, ℕ, zero, suc, ◌+◌, ◌-◌, ◌<◌, ◌≤◌, add-one, arith, length, get_or, take, drop, length-drop, drop-cons, drop-drop, length-take-le}
+use Rattle.std.proofs.Math.Nat.{sub-zero, suc-sub-suc, zero-sub, add-sub_cancel_left}
+use Rattle.std.proofs.Math.Seq.{take-nil}
 
 module _ {A : Type 0} where
   -- the elements from place a up to place e

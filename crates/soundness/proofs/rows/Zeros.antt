@@ -1,15 +1,8 @@
 -- Words that are 0: as a limit, and as the places behind numbers that are padded with zeros. Assumes nothing.
-use mathlib.Core.Path.{◌≡◌, refl, ap₂}
-use mathlib.Core.List.{List, [], ◌∷◌}
-use mathlib.Core.Bool.{Bool, true, false, ◌&&◌, and-true, and-false}
-use Prim.Native.Nat.{ℕ, zero, suc, ◌+◌, ◌<◌, ◌≤◌}
-use native.Mathlib.Nat.{suc-sub-suc, sub-zero}
-use native.Mathlib.Numerals.{add-one}
-use native.Mathlib.Omega.{arith}
-use borrow.Author.Tests.{le-ltb, eq-eqb}
-use lib.ListN.{length, get_or, take, drop, replicate, drop_of_length-le}
-use lib.Dec.{eqb, ltb, leb, leb-zero, eqb-zero-suc}
-use lib.Seq.{take-take, drop-cons}
+use Rattle.std.proofs.Common.{◌≡◌, refl, ap, ap₂, List, [], ◌∷◌, Bool, true, false, ◌&&◌, ℕ, zero, suc, ◌+◌, ◌-◌, ◌<◌, ◌≤◌, add-one, arith, le-ltb, eq-eqb, length, get_or, take, drop, replicate, length-drop, drop_of_length-le, eqb, ltb, leb, take-take, take_all, drop-cons}
+use Rattle.std.proofs.Math.Bool.{and-true, and-false}
+use Rattle.std.proofs.Math.Nat.{suc-sub-suc, sub-zero}
+use Rattle.std.proofs.Math.Dec.{leb-zero, eqb-zero-suc}
 use Rattle.model.specs.Lists.{all, is_empty, eq_numbers, padded}
 use Rattle.theory.proofs.Lists.Laws.{eqb-sym, all_alike}
 use Rattle.soundness.specs.rows.RowTests.{zero_from}
@@ -39,6 +32,11 @@ module _ (words : List ℕ) (k : ℕ) (z t : Bool) where
   pub none_left : length words ≤ k → z && zero_from words k ≡ t → z ≡ t
   unfolding zero_from all
   none_left l h = rw (drop_of_length-le words l, and-true) at h
+
+-- the words from a place on, as a slice of their own
+pub zeros-behind : (words : List ℕ) (i : ℕ) → zero_from (part words i (length words)) 0 ≡ zero_from words i
+unfolding zero_from
+zeros-behind words i = ap (all (eqb 0)) (take_all (length words - i) (drop i words) (rw length-drop (omega arith)))
 
 -- numbers that are zeros
 zeros : (xs : List ℕ) → eq_numbers xs (replicate (length xs) 0) ≡ all (eqb 0) xs

@@ -1,12 +1,7 @@
 -- The chain of tests on loaded words: what passes it is a sound state whose words they are, and the other way round.
 -- Assumes nothing.
-use mathlib.Core.Path.{◌≡◌, refl, sym}
-use Prim.Native.Nat.{◌≤◌}
-use native.Mathlib.Nat.{le_trans}
-use native.Mathlib.Omega.{arith}
-use lib.ListN.{length, length-map, length-take}
-use lib.Seq.{length-take-le}
-use lib.Dec.{T}
+use Rattle.std.proofs.Common.{◌≡◌, refl, sym, ◌≤◌, le_trans, arith, length, length-take, length-take-le, T}
+use Rattle.std.proofs.Math.ListN.{length-map}
 use Rattle.model.specs.Limits.{Limits}
 use Rattle.model.specs.Lists.{all}
 use Rattle.model.specs.Term.{var, Book, acyclic}

@@ -1,9 +1,5 @@
 -- The tests of the header and of the rows as facts, to reason with. Assumes nothing: these are definitions.
-use mathlib.Core.Path.{◌≡◌}
-use mathlib.Core.List.{List}
-use Prim.Native.Nat.{ℕ, ◌+◌, ◌*◌, ◌≤◌, ◌<◌}
-use lib.ListN.{length, take, drop}
-use lib.Dec.{T, ltb}
+use Rattle.std.proofs.Common.{◌≡◌, List, ℕ, ◌+◌, ◌*◌, ◌≤◌, ◌<◌, length, take, drop, T, ltb}
 use Rattle.model.specs.Limits.{Limits, max_arity}
 use Rattle.model.specs.Lists.{all}
 use Rattle.model.specs.Area.{term_words, entry_row_words, area_length, node_words, entry_words, binding_ok, word}

@@ -1,12 +1,5 @@
 -- Words that are rows, one after the other, and zeros behind them. Assumes nothing.
-use mathlib.Core.Path.{◌≡◌, refl, sym, ap, ap₂, ◌∙◌}
-use mathlib.Core.List.{List, [], ◌∷◌, map}
-use Prim.Native.Nat.{ℕ, zero, suc, ◌+◌, ◌*◌, ◌-◌, ◌≤◌, ◌<◌, zero-le, suc-le-suc}
-use native.Mathlib.Nat.{mul-zero, mul-suc, add-zero, zero-add, add-suc, suc-add, add_comm}
-use native.Mathlib.Omega.{arith}
-use lib.ListN.{length, take, drop, replicate, take-append-drop, length-drop}
-use lib.Seq.{take-add, drop-drop, drop_at, length-take-le}
-use lib.Dec.{T, eqb, eqb→eq}
+use Rattle.std.proofs.Common.{◌≡◌, refl, sym, ap, ap₂, ◌∙◌, List, [], ◌∷◌, map, ℕ, zero, suc, ◌+◌, ◌*◌, ◌-◌, ◌≤◌, ◌<◌, zero-le, suc-le-suc, mul-zero, mul-suc, add-zero, zero-add, add-suc, suc-add, add_comm, arith, length, take, drop, replicate, take-append-drop, length-drop, take-add, drop-drop, drop_at, length-take-le, T, eqb, eqb→eq}
 use Rattle.model.specs.Lists.{all, from, concat_map, padded}
 use Rattle.theory.proofs.Lists.Laws.{and_left, and_right}
 use Rattle.theory.proofs.Lists.From.{length-map-from, get_or-map-from}

@@ -1,10 +1,5 @@
 -- Loaded words are the words of a state exactly when they are so part by part. Assumes nothing.
-use mathlib.Core.Path.{◌≡◌, ap}
-use mathlib.Core.List.{List, [], ◌∷◌, ◌++◌, map}
-use Prim.Native.Nat.{ℕ, ◌*◌, ◌≤◌, zero-le}
-use native.Mathlib.Omega.{arith}
-use lib.ListN.{length, get_or, take, drop}
-use lib.Seq.{take_at, drop_at}
+use Rattle.std.proofs.Common.{◌≡◌, ap, List, [], ◌∷◌, ◌++◌, map, ℕ, ◌*◌, ◌≤◌, zero-le, arith, length, get_or, take, drop, take_at, drop_at}
 use Rattle.model.specs.Limits.{Limits, max_arity}
 use Rattle.model.specs.Lists.{concat_map, padded}
 use Rattle.model.specs.Term.{Node, var, app, arguments}

@@ -1,10 +1,6 @@
 -- The loaded state is the area's, where the numbers of the header and the counts lie in their ranges. Assumes nothing.
-use mathlib.Core.Path.{◌≡◌, sym}
-use mathlib.Core.List.{List}
-use mathlib.Core.Option.{none}
-use Prim.Native.Nat.{ℕ, ◌+◌, ◌*◌, ◌-◌, ◌≤◌, ◌<◌}
-use native.Mathlib.Nat.{zero-add, add-zero, add_assoc}
-use native.Mathlib.Omega.{arith}
+use Rattle.std.proofs.Common.{◌≡◌, sym, List, ℕ, ◌+◌, ◌*◌, ◌-◌, ◌≤◌, ◌<◌, zero-add, add-zero, add_assoc, arith}
+use Rattle.std.proofs.Math.Option.{none}
 use Rattle.model.specs.Limits.{Limits, max_arity}
 use Rattle.model.specs.Term.{var}
 use Rattle.model.specs.Table.{hole_at}

@@ -1,11 +1,6 @@
 -- The tests of `model` on a loaded state, row by row. Assumes nothing.
-use mathlib.Core.List.{List}
-use mathlib.Core.Option.{none}
-use mathlib.Core.Bool.{Bool, ◌&&◌}
-use mathlib.Core.Logic.{◌↔◌}
-use Prim.Native.Nat.{ℕ, ◌*◌, ◌+◌, ◌≤◌, ◌<◌, zero-le}
-use lib.ListN.{length, get_or}
-use lib.Dec.{T, eqb, ltb, leb, leb→le, le→leb}
+use Rattle.std.proofs.Common.{List, Bool, ◌&&◌, ◌↔◌, ℕ, ◌*◌, ◌+◌, ◌≤◌, ◌<◌, zero-le, length, get_or, T, eqb, ltb, leb, leb→le, le→leb}
+use Rattle.std.proofs.Math.Option.{none}
 use Rattle.model.specs.Limits.{max_arity, max_symbol}
 use Rattle.model.specs.Lists.{all}
 use Rattle.model.specs.Term.{Node, var, app, arguments, Book, Bindings, root}

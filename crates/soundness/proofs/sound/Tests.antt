@@ -1,11 +1,5 @@
 -- The tests of the header and of the rows say exactly the facts of Facts.antt. Assumes nothing.
-use mathlib.Core.Path.{◌≡◌}
-use mathlib.Core.List.{List}
-use mathlib.Core.Bool.{Bool}
-use mathlib.Core.Logic.{◌↔◌}
-use Prim.Native.Nat.{ℕ, ◌+◌, ◌*◌}
-use lib.ListN.{length, take, drop}
-use lib.Dec.{T, ltb, leb, leb→le, le→leb}
+use Rattle.std.proofs.Common.{◌≡◌, List, Bool, ◌↔◌, ℕ, ◌+◌, ◌*◌, length, take, drop, T, ltb, leb, leb→le, le→leb}
 use Rattle.model.specs.Limits.{Limits, max_arity}
 use Rattle.model.specs.Lists.{all, from, eq_numbers}
 use Rattle.model.specs.Area.{term_words, entry_row_words, area_length, node_words, entry_words, binding_ok, word}

@@ -1,10 +1,5 @@
 -- The theorems of specs/sound/Sound.antt: soundness is the chain of tests, and the loaded state is the area's. Assumes nothing.
-use mathlib.Core.Path.{◌≡◌, refl, subst}
-use mathlib.Core.List.{List}
-use mathlib.Core.Bool.{◌&&◌}
-use mathlib.Core.Logic.{◌↔◌}
-use Prim.Native.Nat.{ℕ}
-use lib.Dec.{T}
+use Rattle.std.proofs.Common.{◌≡◌, refl, subst, List, ◌&&◌, ◌↔◌, ℕ, T}
 use Rattle.leb128.specs.Laws.{are_bytes}
 use Rattle.model.specs.Limits.{Limits}
 use Rattle.model.specs.Term.{acyclic}

@@ -1,11 +1,6 @@
 -- The words of an area: they are the parts that are loaded, and an area of bytes begins with a state's bytes exactly when
 -- the loaded words are the state's. Assumes nothing.
-use mathlib.Core.Path.{◌≡◌, refl, sym, ◌∙◌}
-use mathlib.Core.List.{List, [], ◌∷◌, append_assoc}
-use Prim.Native.Nat.{ℕ, ◌+◌, ◌*◌, ◌≤◌}
-use native.Mathlib.Nat.{zero-add}
-use lib.ListN.{length}
-use lib.Dec.{T}
+use Rattle.std.proofs.Common.{◌≡◌, refl, sym, ◌∙◌, List, [], ◌∷◌, append_assoc, ℕ, ◌+◌, ◌*◌, ◌≤◌, zero-add, length, T}
 use Rattle.leb128.specs.Laws.{are_bytes}
 use Rattle.model.specs.Limits.{Limits}
 use Rattle.model.specs.Lists.{from}

@@ -1,13 +1,7 @@
 -- The test of an entry's row, taken apart: its sides, its kind, its count and its places. Assumes nothing.
-use mathlib.Core.Path.{◌≡◌, refl, sym, ◌∙◌}
-use mathlib.Core.List.{List, [], ◌∷◌, ◌++◌}
-use mathlib.Core.Bool.{Bool, false, ◌&&◌, and-true, and-false, and_assoc}
-use Prim.Native.Nat.{ℕ, ◌+◌, ◌*◌, ◌-◌, ◌≤◌, ◌<◌, zero-le}
-use native.Mathlib.Omega.{arith}
-use borrow.Author.Tests.{le-leb, lt-leb, eq-eqb, ne_eqb}
-use lib.ListN.{length, take, drop, length-drop}
-use lib.Seq.{take-suc, get_or-drop}
-use lib.Dec.{eqb, ltb, leb}
+use Rattle.std.proofs.Common.{◌≡◌, refl, sym, ◌∙◌, List, [], ◌∷◌, ◌++◌, Bool, false, ◌&&◌, ℕ, ◌+◌, ◌*◌, ◌-◌, ◌≤◌, ◌<◌, zero-le, arith, le-leb, eq-eqb, ne_eqb, length, take, drop, length-drop, take-suc, get_or-drop, eqb, ltb, leb}
+use Rattle.std.proofs.Math.Bool.{and-true, and-false, and_assoc}
+use Rattle.std.proofs.lemmas.Bool.{lt-leb}
 use Rattle.model.specs.Limits.{max_arity}
 use Rattle.model.specs.Lists.{all, is_empty, eq_numbers}
 use Rattle.model.specs.Table.{hole, common}

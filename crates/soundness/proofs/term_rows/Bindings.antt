@@ -1,11 +1,5 @@
 -- The test of a binding, by the word of the binding and the first word of the term's row. Assumes nothing.
-use mathlib.Core.Path.{◌≡◌}
-use mathlib.Core.List.{List}
-use mathlib.Core.Bool.{true, false}
-use Prim.Native.Nat.{ℕ, suc, ◌*◌, ◌-◌}
-use native.Mathlib.Omega.{arith}
-use borrow.Author.Tests.{ne_eqb}
-use lib.Dec.{leb}
+use Rattle.std.proofs.Common.{◌≡◌, List, true, false, ℕ, suc, ◌*◌, ◌-◌, arith, ne_eqb, leb}
 use Rattle.model.specs.Area.{term_words, binding_ok}
 use Rattle.layout.specs.limits.Rows.{at, node_of, book_of, binding_of}
 use Rattle.layout.proofs.limits.Rows.{length-book_of}

@@ -1,12 +1,7 @@
 -- The test of a term's row, taken apart: by its first word, its count and its places. Assumes nothing.
-use mathlib.Core.Path.{◌≡◌}
-use mathlib.Core.List.{List, ◌∷◌}
-use mathlib.Core.Bool.{true, false, ◌&&◌, and-true, and-false, and_comm}
-use Prim.Native.Nat.{ℕ, suc, ◌+◌, ◌*◌, ◌-◌, ◌≤◌, ◌<◌}
-use native.Mathlib.Omega.{arith}
-use borrow.Author.Tests.{le-leb, lt-leb, eq-eqb, ne_eqb}
-use lib.ListN.{length, take, drop}
-use lib.Dec.{eqb, ltb}
+use Rattle.std.proofs.Common.{◌≡◌, List, ◌∷◌, true, false, ◌&&◌, ℕ, suc, ◌+◌, ◌*◌, ◌-◌, ◌≤◌, ◌<◌, arith, le-leb, eq-eqb, ne_eqb, length, take, drop, eqb, ltb}
+use Rattle.std.proofs.Math.Bool.{and-true, and-false, and_comm}
+use Rattle.std.proofs.lemmas.Bool.{lt-leb}
 use Rattle.model.specs.Limits.{max_arity, max_symbol}
 use Rattle.model.specs.Lists.{all, eq_numbers}
 use Rattle.model.specs.Area.{term_words, node_words}

@@ -1,10 +1,9 @@
 -- What adding a line answers, test by test, and the words that an accepted line leaves. Assumes nothing.
-use mathlib.Core.Path.{◌≡◌, refl, sym, ◌∙◌}
+use mathlib.Core.Path.{◌≡◌, refl, ◌∙◌}
 use mathlib.Core.List.{List, [], ◌∷◌}
-use mathlib.Core.Bool.{true, false}
 use Prim.Native.Nat.{ℕ, ◌+◌, ◌*◌, ◌≤◌, ◌<◌}
 use native.Mathlib.Omega.{arith}
-use borrow.Author.Tests.{lt-ltb, le-ltb, le-leb, lt-leb, ltb-true}
+use borrow.Author.Tests.{lt-ltb, le-ltb, le-leb, lt-leb}
 use lib.Dec.{leb}
 use lib.ListN.{length, set, length-append, length-set}
 use Rattle.model.specs.Limits.{Limits}
@@ -18,17 +17,21 @@ use Rattle.soundness.proofs.sound.Parts.{Holds}
 use Rattle.pairs.specs.Index.{Room}
 use Rattle.area.specs.load.Ready.{Ready}
 use Rattle.area.proofs.load.Uses.{ready_facts, ready-sized, ready-holds}
-use Rattle.table.specs.place.Stands.{HoldsTable, GivenTable, Whatever}
+use Rattle.std.specs.Prelude.{suc, Ok, Err}
+use Rattle.refusal.specs.declared.Refusal.{Refusal}
+use Rattle.refusal.specs.declared.Refusal.TheVariants.{NamesNothing, TooManyLines}
+use Rattle.refusal.specs.Numbers.{number_of}
+use Rattle.model.specs.Table.{place, walk}
+use Rattle.table.specs.place.Stands.{HoldsTable, IsFull, GivenTable, Whatever}
 use Rattle.table.specs.declared.place.Placed.{Placed}
 use Rattle.table.proofs.visit.Lists.{padded-set}
 use Rattle.table.proofs.place.Placing.{few-entries}
 use Rattle.step.specs.declared.answer.Step.TheVariants.{Add}
-use Rattle.step.specs.declared.answer.StepAnswer.TheVariants.{Refused, Added}
-use Rattle.step.specs.declared.answer.Stepped.{Stepped}
+use Rattle.step.specs.declared.answer.Accepted.TheVariants.{Added}
 use Rattle.step.specs.answer.Stepped.{step_numbers, accepted_as, Leaves}
 use Rattle.step.proofs.answer.Tables.{ready-known, to_index}
 use Rattle.step.proofs.answer.Leaving.{table-words, leaves, gives_refused, gives_accepted}
-use Rattle.step.specs.grow.Growing.{ToGrow, IsGrown}
+use Rattle.step.specs.grow.Growing.{ToGrow, Grows}
 use Rattle.step.specs.add_line.Adding.{GivenBindings, AddsLine}
 
 -- the tests in their order
@@ -100,32 +103,29 @@ line_leaves {lim} {w} {s} z h l r i m room is-entry is-count table long =
 
 -- A loaded state.
 module _ {lim : Limits} {h : Header} {rows roots names lines entries : List ℕ} where
-  -- the refusal n, where the line is refused by it whatever the bindings are
-  line_refused : {n : ℕ} {a : Stepped} (l r : ℕ) (lines' entries' : List ℕ) → a ≡ record { answer = Refused n; entries = 0; lines = 0 }
-      → (n ≡ 0 → ⊥)
+  -- a refusal, where the line is refused by it whatever the bindings are
+  line_refused : (e : Refusal) (l r : ℕ) (lines' entries' : List ℕ)
       → ((bindings list : List ℕ) → let w = held h rows bindings lines entries in
-      Ready lim w list roots names → add_line lim (loaded_state w) l r ≡ refused n)
-      → AddsLine lim h rows roots names lines entries l r a lines' entries'
-  line_refused l r lines' entries' e z f bindings list q = rw e (gives_refused lim _ (Add l r) (f bindings list q) z)
+      Ready lim w list roots names → add_line lim (loaded_state w) l r ≡ refused (number_of e))
+      → AddsLine lim h rows roots names lines entries l r (Err e) lines' entries'
+  line_refused e l r lines' entries' f bindings list q = gives_refused lim _ (Add l r) e (f bindings list q)
 
-  module _ (l r : ℕ) {a : Stepped} (lines' entries' : List ℕ) where
+  module _ (l r : ℕ) (lines' entries' : List ℕ) where
     -- no term
-    module _ (e : a ≡ record { answer = Refused 8; entries = 0; lines = 0 }) where
-      pub left-refused : h.terms ≤ l → AddsLine lim h rows roots names lines entries l r a lines' entries'
-      left-refused n =
-          line_refused l r lines' entries' e (λ z. omega arith) (λ bindings list q. no_left lim _ l r (rw (ready-holds q).terms-count at n))
+    pub left-refused : h.terms ≤ l → AddsLine lim h rows roots names lines entries l r (Err NamesNothing) lines' entries'
+    left-refused n = line_refused NamesNothing l r lines' entries' (λ bindings list q. no_left lim _ l r (rw (ready-holds q).terms-count at n))
 
-      pub right-refused : l < h.terms → h.terms ≤ r → AddsLine lim h rows roots names lines entries l r a lines' entries'
-      right-refused left n =
-          line_refused l r lines' entries' e (λ z. omega arith)
-          (λ bindings list q.
-          let k = (ready-holds q).terms-count in no_right lim _ l r (rw k at left) (rw k at n))
+    pub right-refused : l < h.terms → h.terms ≤ r → AddsLine lim h rows roots names lines entries l r (Err NamesNothing) lines' entries'
+    right-refused left n =
+        line_refused NamesNothing l r lines' entries'
+        (λ bindings list q.
+        let k = (ready-holds q).terms-count in no_right lim _ l r (rw k at left) (rw k at n))
 
     -- no room for a line
-    pub lines-refused : a ≡ record { answer = Refused 12; entries = 0; lines = 0 } → l < h.terms → r < h.terms → lim.max_lines ≤ h.lines
-        → AddsLine lim h rows roots names lines entries l r a lines' entries'
-    lines-refused e left right n =
-        line_refused l r lines' entries' e (λ z. omega arith)
+    pub lines-refused : l < h.terms → r < h.terms → lim.max_lines ≤ h.lines
+        → AddsLine lim h rows roots names lines entries l r (Err TooManyLines) lines' entries'
+    lines-refused left right n =
+        line_refused TooManyLines l r lines' entries'
         (λ bindings list q.
         let k = ready-holds q in no_line lim _ l r (rw k.terms-count at left) (rw k.terms-count at right) (rw k.lines-count at n))
 
@@ -152,28 +152,30 @@ module _ {lim : Limits} {h : Header} {rows roots names lines entries : List ℕ}
         let s = loaded_state (held h rows g.bindings lines entries) in
         record { book = s.book; bound = s.bound; table = s.entries; known = to_grow g.ready }
 
-    module _ {p : Placed} {entries' lefts' rights' cells' : List ℕ}
-        (grown : Whatever (ToGrow rows roots names entries lefts rights cells h.capacity h.entries l r)
-        (IsGrown entries' lefts' rights' cells' h.capacity l r p)) (some-line : h.lines < lim.max_lines) where
+    module _ (some-line : h.lines < lim.max_lines) where
       -- it needs more entries than the capacity
-      pub full_refused : {a : Stepped} (lines' : List ℕ) → a ≡ record { answer = Refused 11; entries = 0; lines = 0 } → p.full ≡ true
-          → AddsLine lim h rows roots names lines entries l r a lines' entries'
+      pub full_refused : {e : Refusal}
+          → Whatever (ToGrow rows roots names entries lefts rights cells h.capacity h.entries l r)
+          (λ b β es. IsFull h.capacity e (walk b β (suc h.capacity) 0 (place b β es l r)))
+          → (lines' entries' : List ℕ) → AddsLine lim h rows roots names lines entries l r (Err e) lines' entries'
       unfolding loaded_state
-      full_refused lines' e f =
-          line_refused l r lines' entries' e (λ z. omega arith)
-          (λ bindings list q.
+      full_refused {e} over lines' entries' bindings list q =
           let g = to_grow q in
-          no_entries lim (loaded_state (held h rows bindings lines entries)) l r g.left-term g.right-term (omega (arith, (ready-holds q).lines-count))
-          (ltb-true h.capacity _ (sym (grown _ _ _ g).reaches.is_full ∙ f)))
+          let is = over _ _ _ g in
+          gives_refused lim _ (Add l r) e
+          (rw is.full
+          (no_entries lim (loaded_state (held h rows bindings lines entries)) l r g.left-term g.right-term (omega (arith, (ready-holds q).lines-count)) is.beyond))
 
-      module _ (f : p.full ≡ false) where
+      module _ {p : Placed} {entries' lefts' rights' cells' : List ℕ}
+          (grown : Whatever (ToGrow rows roots names entries lefts rights cells h.capacity h.entries l r)
+          (Grows entries' lefts' rights' cells' h.capacity l r p)) where
         -- its entries are counted in a word
         pub count_fits : GivenBindings lim h rows roots names lines entries → p.count ≤ h.capacity
-        count_fits g = few-entries ((grown _ _ _ (to_grow g.ready)).reaches.stands f)
+        count_fits g = few-entries (grown _ _ _ (to_grow g.ready)).reaches.stands
 
         -- it is added
         pub line_added : AddsLine lim h rows roots names lines entries l r
-            (record { answer = Added p.entry; entries = p.count; lines = h.lines + 1 }) (set lines h.lines p.entry) entries'
+            (Ok (record { accepted = Added p.entry; entries = p.count; lines = h.lines + 1 })) (set lines h.lines p.entry) entries'
         unfolding loaded_state accepted_as step_numbers
         line_added bindings list q =
             let w = held h rows bindings lines entries in
@@ -181,8 +183,8 @@ module _ {lim : Limits} {h : Header} {rows roots names lines entries : List ℕ}
             let k = ready-holds q in
             let g = to_grow q in
             let done = grown _ _ _ g in
-            let stood = done.reaches.stands f in
+            let stood = done.reaches.stands in
             let some : length s.lines < lim.max_lines = omega (arith, k.lines-count) in
-            rw (done.its_entry f)
-            (gives_accepted (Add l r) (taken lim s l r g.left-term g.right-term some (omega (arith, few-entries stood, stood.count))) refl
+            rw done.its_entry
+            (gives_accepted (Add l r) (taken lim s l r g.left-term g.right-term some done.reaches.within) refl
             (line_leaves (ready-sized q) k l r (line-entry s l r) p.count some refl stood.count stood.held stood.long))

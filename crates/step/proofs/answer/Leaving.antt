@@ -10,9 +10,12 @@ use Rattle.model.specs.Step.{State, Answer, refused, accepted}
 use Rattle.model.specs.Area.{entry_row_words, entry_words}
 use Rattle.layout.specs.limits.Rows.{Loaded, Sized}
 use Rattle.soundness.proofs.sound.Parts.{Holds, whole}
+use Rattle.std.specs.Prelude.{Ok, Err}
+use Rattle.refusal.specs.declared.Refusal.{Refusal}
+use Rattle.refusal.specs.Numbers.{number_of}
+use Rattle.refusal.proofs.Numbers.{numbers_tell, none_is_zero}
 use Rattle.table.specs.place.Stands.{HoldsTable}
 use Rattle.step.specs.declared.answer.Step.{Step}
-use Rattle.step.specs.declared.answer.StepAnswer.TheVariants.{Refused}
 use Rattle.step.specs.answer.Stepped.{step_numbers, accepted_as, Leaves, Gives}
 
 -- the rows of a table, for its capacity
@@ -25,12 +28,12 @@ pub leaves : {lim : Limits} {w : Loaded} {s : State} → Sized lim w → Holds l
 leaves {lim} {w} {s} z h = record { sized = z; words = whole lim w s h }
 
 -- a refusal, whatever the words are
-pub gives_refused : (lim : Limits) (w : Loaded) (step : Step) {a : Answer} {n : ℕ} → a ≡ refused n → (n ≡ 0 → ⊥) → Gives lim step a (Refused n) w
+pub gives_refused : (lim : Limits) (w : Loaded) (step : Step) {a : Answer} (e : Refusal) → a ≡ refused (number_of e) → Gives lim step a (Err e) w
 unfolding Gives
-gives_refused lim w step e h = rw e (refl, h)
+gives_refused lim w step e is = rw is (rw (numbers_tell e) refl, refl, none_is_zero e)
 
 -- an accepted step gives the answer's numbers and leaves the words of its state
 pub gives_accepted : {lim : Limits} {w : Loaded} {s : State} {a : Answer} {numbers : List ℕ} (step : Step) → a ≡ accepted numbers s
-    → step_numbers step (accepted_as step numbers) ≡ numbers → Leaves lim s w → Gives lim step a (accepted_as step numbers) w
+    → step_numbers step (Ok (accepted_as step numbers)) ≡ numbers → Leaves lim s w → Gives lim step a (Ok (accepted_as step numbers)) w
 unfolding Gives
 gives_accepted step e n l = rw e (refl, n, l)

@@ -20,17 +20,20 @@ use Rattle.layout.specs.limits.Rows.{Loaded, book_of, bound_of, table_of, loaded
 use Rattle.layout.proofs.limits.Rows.{length-book_of, length-table_of}
 use Rattle.layout.specs.declared.header.Header.{Header}
 use Rattle.layout.specs.header.Held.{held}
-use Rattle.values.specs.roots.Reading.{Listed}
 use Rattle.values.proofs.names.Lowest.{scratch_kept}
 use Rattle.soundness.proofs.sound.Tests.{row_facts}
 use Rattle.pairs.proofs.Rooms.{room_kept}
 use Rattle.values.proofs.evaluate.Rooms.{fewer_terms}
 use Rattle.pairs.proofs.Rooms.{room_fewer}
 use Rattle.area.proofs.load.Uses.{ready_facts, ready-holds}
+use Rattle.std.specs.Prelude.{Result, Err}
+use Rattle.refusal.specs.declared.Refusal.{Refusal}
+use Rattle.refusal.specs.declared.Refusal.TheVariants.{Full}
+use Rattle.refusal.specs.Numbers.{number_of}
+use Rattle.refusal.proofs.Numbers.{none_is_zero}
 use Rattle.table.specs.place.Stands.{HoldsTable}
 use Rattle.step.specs.declared.answer.Step.TheVariants.{Bind}
-use Rattle.step.specs.declared.answer.StepAnswer.TheVariants.{Refused}
-use Rattle.step.specs.answer.Stepped.{step_numbers, accepted_as, header_after, Leaves, Gives}
+use Rattle.step.specs.answer.Stepped.{step_numbers, accepted_as, answer_of, header_after, Leaves, Gives}
 use Rattle.step.specs.declared.answer.Stepped.{Stepped}
 use Rattle.step.proofs.answer.Tables.{held-table}
 use Rattle.step.proofs.answer.Leaving.{table-words, leaves, gives_refused, gives_accepted}
@@ -40,31 +43,26 @@ use Rattle.step.specs.bind.Choosing.{Asked, early_refusal}
 use Rattle.step.proofs.bind.Tests.{choice_numbers, Passed, passed, bind_tests_lem}
 use Rattle.step.proofs.bind.Words.{bound-set, words-set}
 
--- what the tests before the walk ask; the cells are the scratch
-pub tests_ask : {h : Header} {rows bindings list roots names entries lefts rights cells : List ℕ} {lim : Limits} {lines : List ℕ}
-    → Asked h rows bindings list roots names entries lefts rights cells lim lines → Listed rows bindings list h.terms × (h.terms ≤ length cells)
-tests_ask a =
-    (a.ready.valued.listed, omega (arith, a.ready.used.bindings_fit, a.ready.sizes.bindings_size, a.lent.for_terms.scratch.room.cells_fit))
-
 module _ {h : Header} {rows bindings list roots names entries lefts rights cells : List ℕ} {lim : Limits} {lines : List ℕ}
-    (a : Asked h rows bindings list roots names entries lefts rights cells lim lines) (v t : ℕ) {r : ℕ}
-    (tested : r ≡ early_refusal (book_of rows h.terms) (bound_of bindings h.terms) v t) where
+    (a : Asked h rows bindings list roots names entries lefts rights cells lim lines) (v t : ℕ) where
   abbrev state : State
   state = loaded_state (held h rows bindings lines entries)
 
   -- a choice that the tests before the walk refuse
-  pub refuses : (r ≡ 0 → ⊥) → {s : Stepped} → s ≡ record { answer = Refused r; entries = 0; lines = 0 } → (w : Loaded)
-      → Gives lim (Bind v t) (bind state v t) s.answer w
+  pub refuses : (e : Refusal) → number_of e ≡ early_refusal (book_of rows h.terms) (bound_of bindings h.terms) v t → (w : Loaded)
+      → Gives lim (Bind v t) (bind state v t) (Err e) w
   unfolding loaded_state
-  refuses n is w = rw is (gives_refused lim w (Bind v t) (rw (bind_tests_lem state v t, ← tested, ne_eqb r 0 n)) n)
+  refuses e tested w =
+      let none = none_is_zero e in
+      gives_refused lim w (Bind v t) e (rw (bind_tests_lem state v t, ← tested, ne_eqb (number_of e) 0 none))
 
   -- The choice passes them.
-  module _ (none-refuses : r ≡ 0) where
+  module _ (tested : 0 ≡ early_refusal (book_of rows h.terms) (bound_of bindings h.terms) v t) where
     facts : SoundFacts lim state
     facts = ready_facts a.ready
 
     tests : Passed (book_of rows h.terms) (bound_of bindings h.terms) v t
-    tests = passed _ _ v t (sym tested ∙ none-refuses)
+    tests = passed _ _ v t (sym tested)
 
     v_term : v < h.terms
     v_term = rw length-book_of at tests.v_term
@@ -149,15 +147,15 @@ module _ {h : Header} {rows bindings list roots names entries lefts rights cells
           })
 
       -- the answer of the rest is the answer of the choice
-      gives : {s : Stepped} → IsSettled h entries' s (book_of rows h.terms) (set (bound_of bindings h.terms) v (some t)) (table_of entries h.entries)
+      gives : {s : Result Stepped Refusal} → IsSettled h entries' s (book_of rows h.terms) (set (bound_of bindings h.terms) v (some t)) (table_of entries h.entries)
           → (x : Bool) → leb (length (choice_table state v t)) h.capacity ≡ x
-          → Gives lim (Bind v t) (require x 11 (accepted (choice_numbers state v t) (choice_state state v t))) s.answer
+          → Gives lim (Bind v t) (require x 11 (accepted (choice_numbers state v t) (choice_state state v t))) (answer_of s)
           (held (header_after h s) rows (set bindings v (t + 1)) lines entries')
       unfolding loaded_state require walked_answer accepted_as step_numbers
       gives q true x = rw (q.answer, x) (gives_accepted (Bind v t) refl refl (left-words _ refl (q.table (leb-true _ _ x))))
-      gives q false x = rw (q.answer, x) (gives_refused lim _ (Bind v t) refl (λ z. omega arith))
+      gives q false x = rw (q.answer, x) (gives_refused lim _ (Bind v t) Full refl)
 
-      pub chosen : {s : Stepped} → IsSettled h entries' s (book_of rows h.terms) (bound_of (set bindings v (t + 1)) h.terms) (table_of entries h.entries)
-          → Gives lim (Bind v t) (bind state v t) s.answer (held (header_after h s) rows (set bindings v (t + 1)) lines entries')
+      pub chosen : {s : Result Stepped Refusal} → IsSettled h entries' s (book_of rows h.terms) (bound_of (set bindings v (t + 1)) h.terms) (table_of entries h.entries)
+          → Gives lim (Bind v t) (bind state v t) (answer_of s) (held (header_after h s) rows (set bindings v (t + 1)) lines entries')
       unfolding loaded_state
-      chosen q = rw (bind_tests_lem state v t, ← tested, none-refuses) (gives (rw new-bound at q) _ refl)
+      chosen q = rw (bind_tests_lem state v t, ← tested) (gives (rw new-bound at q) _ refl)

@@ -1,12 +1,9 @@
 -- A table under bindings that have changed: with the terms named anew it can be indexed, and then walked through. Assumes nothing.
-use mathlib.Core.Path.{◌≡◌, sym, ◌∙◌}
+use mathlib.Core.Path.{◌≡◌, sym}
 use mathlib.Core.List.{List}
-use mathlib.Core.Bool.{Bool, true, not}
 use Prim.Native.Nat.{ℕ, ◌≤◌}
 use native.Mathlib.Omega.{arith}
-use borrow.Author.Tests.{not-true}
 use lib.ListN.{length}
-use Rattle.model.specs.Term.{acyclic}
 use Rattle.layout.specs.limits.Rows.{book_of, bound_of, table_of}
 use Rattle.layout.proofs.limits.Rows.{length-book_of, length-table_of}
 use Rattle.layout.specs.declared.header.Header.{Header}
@@ -24,10 +21,6 @@ use Rattle.step.specs.rebuild.Rebuilding.{ToRebuild}
 
 module _ {h : Header} {rows bindings list roots names entries lefts rights cells : List ℕ}
     (r : ToRebuild h rows bindings list roots names entries lefts rights cells) where
-  -- no value contains itself, so no test says that one does
-  pub never_refused : {x : Bool} → x ≡ acyclic (book_of rows h.terms) (bound_of bindings h.terms) → not x ≡ true → ⊥
-  never_refused e n = rw (sym e ∙ not-true _ n) at r.no_cycle
-
   -- the table fits its capacity
   few : h.entries ≤ h.capacity
   few = omega (arith, r.table.fits, r.long, length-table_of entries h.entries)

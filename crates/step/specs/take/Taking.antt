@@ -1,6 +1,6 @@
 -- A step on a loaded state, whichever it is, and the bytes that it leaves (document 01, "Add a line", "Fix a choice", "Turned
 -- down"). Assumes nothing: these are definitions.
-use Rattle.std.specs.Prelude.{List, cond, ℕ, eqb}
+use Rattle.std.specs.Prelude.{List, ℕ}
 use Rattle.model.specs.Limits.{Limits}
 use Rattle.model.specs.Lists.{concat_map}
 use Rattle.model.specs.Step.{State, Answer, add_line, bind}
@@ -15,6 +15,6 @@ unfoldable pub step_of : Limits → Step → State → Answer
 step_of lim (Add l r) s = add_line lim s l r
 step_of lim (Bind v t) s = bind s v t
 
--- An area after a step: with the words that it leaves, or as it was where it is refused.
-unfoldable pub stored_bytes : ℕ → Loaded → List ℕ → List ℕ
-stored_bytes refusal w area = cond (eqb refusal 0) (over (concat_map (to_bytes word_size) (loaded_words w)) area) area
+-- An area after an accepted step: with the words that it leaves.
+abbrev pub stored_bytes : Loaded → List ℕ → List ℕ
+stored_bytes w area = over (concat_map (to_bytes word_size) (loaded_words w)) area

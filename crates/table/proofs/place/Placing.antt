@@ -1,16 +1,14 @@
 -- Placing a pair in slices: it has an entry, or needs one beyond the capacity, or is appended. Assumes nothing.
 use mathlib.Core.Path.{◌≡◌, refl, ap, sym, ◌∙◌}
 use mathlib.Core.List.{List, [], ◌∷◌, ◌++◌}
-use mathlib.Core.Bool.{true, false, true≢false}
 use Prim.Native.Nat.{ℕ, ◌+◌, ◌*◌, ◌≤◌, ◌<◌}
 use native.Mathlib.Numerals.{add-one}
 use native.Mathlib.Omega.{arith}
-use borrow.Author.Tests.{lt-ltb, le-ltb}
 use lib.ListN.{length, replicate, length-append, length-set}
 use lib.Seq.{paste}
 use Rattle.model.specs.Lists.{padded}
 use Rattle.model.specs.Term.{Book, Bindings}
-use Rattle.model.specs.Table.{Table, hole_at, entry_of}
+use Rattle.model.specs.Table.{Table, hole_at, entry_of, place}
 use Rattle.model.specs.Area.{entry_row_words, entry_words, kind_words}
 use Rattle.theory.proofs.Table.Place.{Placed, there, appended, place_cases, place_found}
 use Rattle.layout.specs.limits.Rows.{at}
@@ -21,8 +19,9 @@ use Rattle.layout.specs.entry.Row.{row_of}
 use Rattle.layout.specs.declared.entry.Entry.{Entry}
 use Rattle.soundness.specs.kinds.Sides.{SideNames}
 use Rattle.soundness.proofs.kinds.Names.{entry_of-place}
-use Rattle.table.specs.place.Stands.{HoldsTable, Stands, Reaches}
-use Rattle.table.specs.place.Placing.{ToPlace, IsPlaced}
+use Rattle.refusal.specs.declared.Refusal.TheVariants.{Full}
+use Rattle.table.specs.place.Stands.{HoldsTable, Stands, Reaches, IsFull}
+use Rattle.table.specs.place.Placing.{ToPlace, Places}
 use Rattle.table.proofs.place.Held.{held_more}
 use Rattle.table.proofs.place.Names.{names_more}
 
@@ -42,9 +41,8 @@ few-entries s = omega (arith, s.held.fits, s.long, s.count)
 
 -- so a table that stands in the slices is reached
 pub stands-reaches : {entries lefts rights cells : List ℕ} {capacity m : ℕ} {b : Book} {β : Bindings} {es : Table}
-    → Stands entries lefts rights cells capacity m b β es → Reaches entries lefts rights cells capacity m false b β es
-stands-reaches {capacity = capacity} {es = es} s =
-    record { is_full = sym (le-ltb capacity (length es) (omega (arith, few-entries s, s.count))); stands = λ x. s }
+    → Stands entries lefts rights cells capacity m b β es → Reaches entries lefts rights cells capacity m b β es
+stands-reaches s = record { within = omega (arith, few-entries s, s.count); stands = s }
 
 module _ {names entries lefts rights cells : List ℕ} {capacity m l r : ℕ} {b : Book} {β : Bindings} {es : Table}
     (q : ToPlace names entries lefts rights cells capacity m l r b β es) {f : ℕ}
@@ -58,33 +56,24 @@ module _ {names entries lefts rights cells : List ℕ} {capacity m l r : ℕ} {b
 
   -- the pair has an entry
   there-at : f < m → Placed b β es l r
-      → IsPlaced entries lefts rights cells capacity l r (record { entry = f; count = m; full = false }) b β es
+      → Places entries lefts rights cells capacity l r (record { entry = f; count = m }) b β es
   there-at h (there o p) =
       record {
         reaches = rw p (stands-reaches q.stands);
-        its_entry = λ x. rw p found;
+        its_entry = rw p found;
       }
   there-at h (appended o p) = absurd (omega (arith, found, q.stands.count))
 
-  pub place-there : f < m → IsPlaced entries lefts rights cells capacity l r (record { entry = f; count = m; full = false }) b β es
+  pub place-there : f < m → Places entries lefts rights cells capacity l r (record { entry = f; count = m }) b β es
   place-there h = there-at h (place_cases b β es l r)
 
   module _ (h : m ≤ f) where
     -- it would need an entry beyond the capacity
-    full_at : capacity ≤ m → Placed b β es l r
-        → IsPlaced entries lefts rights cells capacity l r (record { entry = 0; count = m; full = true }) b β es
+    full_at : capacity ≤ m → Placed b β es l r → IsFull capacity Full (place b β es l r)
     full_at g (there o p) = absurd (omega (arith, found, q.stands.count))
-    full_at g (appended o p) =
-        record {
-          reaches =
-              record {
-                is_full = rw (p, length-append) (sym (lt-ltb capacity (length es + 1) (omega (arith, q.stands.count))));
-                stands = λ x. absurd (true≢false x);
-              };
-          its_entry = λ x. absurd (true≢false x);
-        }
+    full_at g (appended o p) = record { full = refl; beyond = rw (p, length-append) (omega (arith, q.stands.count)) }
 
-    pub place_full : capacity ≤ m → IsPlaced entries lefts rights cells capacity l r (record { entry = 0; count = m; full = true }) b β es
+    pub place_full : capacity ≤ m → IsFull capacity Full (place b β es l r)
     place_full g = full_at g (place_cases b β es l r)
 
     -- it is appended
@@ -116,13 +105,13 @@ module _ {names entries lefts rights cells : List ℕ} {capacity m l r : ℕ} {b
           }
 
       hole-at : Placed b β es l r
-          → IsPlaced entries' lefts' rights' cells' capacity l r (record { entry = m; count = m + 1; full = false }) b β es
+          → Places entries' lefts' rights' cells' capacity l r (record { entry = m; count = m + 1 }) b β es
       hole-at (there o p) = absurd (omega (arith, found, q.stands.count))
       hole-at (appended o p) =
           record {
             reaches = rw p (stands-reaches new-stands);
-            its_entry = λ x. q.stands.count ∙ sym ((place_found b β es l r (place_cases b β es l r)).0 ∙ o);
+            its_entry = q.stands.count ∙ sym ((place_found b β es l r (place_cases b β es l r)).0 ∙ o);
           }
 
-      pub place-hole : IsPlaced entries' lefts' rights' cells' capacity l r (record { entry = m; count = m + 1; full = false }) b β es
+      pub place-hole : Places entries' lefts' rights' cells' capacity l r (record { entry = m; count = m + 1 }) b β es
       place-hole = hole-at (place_cases b β es l r)

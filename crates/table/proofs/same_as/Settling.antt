@@ -1,5 +1,5 @@
 -- Setting same-as: after i entries those have it, and the others are as they were. Assumes nothing.
-use mathlib.Core.Path.{◌≡◌, refl, ap, sym, ◌∙◌}
+use mathlib.Core.Path.{◌≡◌, ap, sym, ◌∙◌}
 use mathlib.Core.List.{List, [], ◌∷◌, ◌++◌, append-nil, append_assoc}
 use Prim.Native.Nat.{ℕ, suc, ◌+◌, ◌*◌, ◌≤◌, ◌<◌}
 use native.Mathlib.Numerals.{add-one}
@@ -71,9 +71,6 @@ module _ (new old : Table) (size : length new ≡ length old) (i : ℕ) (l : i <
 pub record Settling (entries₀ lefts rights cells : List ℕ) (m : ℕ) (entries : List ℕ) (i : ℕ) : Type 0 where
   pub size : length entries ≡ length entries₀
   pub so_far : Whatever (ToSettle entries₀ lefts rights cells m) (λ b β es. HoldsTable entries (mixed i (settle b β es) es))
-
-pub settling_none : (entries lefts rights cells : List ℕ) (m : ℕ) → Settling entries lefts rights cells m entries 0
-settling_none entries lefts rights cells m = record { size = refl; so_far = λ b β es q. q.held }
 
 -- the search finds same-as
 module _ {entries₀ lefts rights cells : List ℕ} {m : ℕ} {b : Book} {β : Bindings} {es : Table}

@@ -1,14 +1,13 @@
 -- The count of turned entries, where a table changes in one place or in none that is counted. Assumes nothing.
 use mathlib.Core.Path.{◌≡◌, refl}
 use mathlib.Core.List.{[], ◌∷◌}
-use mathlib.Core.Bool.{Bool, true, false, cond, not, ◌&&◌, and-false}
+use mathlib.Core.Bool.{Bool, true, false, cond, not, ◌&&◌}
 use Prim.Native.Nat.{ℕ, zero, suc, ◌+◌, ◌≤◌, ◌<◌, zero-le, suc-le-suc}
 use native.Mathlib.Nat.{le_of_suc-le-suc, not-suc-le-zero}
 use native.Mathlib.Omega.{arith}
 use lib.ListN.{length, set}
 use Rattle.model.specs.Table.{is_hole, Entry, Table, entry}
 use Rattle.model.specs.Step.{turned}
-use Rattle.table.specs.declared.saturate.Walked.{Walked}
 
 -- a test does not differ from itself
 not_itself : (t : Bool) → ◌≡◌ {A = ℕ} (cond (t && not t) 1 0) 0
@@ -41,21 +40,6 @@ turned_set (o ∷ old) (x ∷ new) zero e p q h g k = rw (h, g, k) (omega arith)
 turned_set (o ∷ old) (x ∷ new) (suc i) e p q h g k =
     let rest = turned_set old new i e (le_of_suc-le-suc p) (le_of_suc-le-suc q) h g k in
     rw rest (omega arith)
-
--- An answer whose count of turned entries two tests raise by one.
-pub record Counted (w w' : Walked) (x y : Bool) : Type 0 where
-  pub raised : w'.turned ≡ w.turned + cond (x && y) 1 0
-  pub same_full : w'.full ≡ w.full
-
-module _ {w w' : Walked} (x y : Bool) where
-  pub counted : x ≡ true → y ≡ true → w' ≡ record { turned = w.turned + 1; count = w.count; full = w.full } → Counted w w' x y
-  counted p q e = rw (e, p, q) (record { raised = refl; same_full = refl })
-
-  pub not_first : x ≡ false → w' ≡ w → Counted w w' x y
-  not_first p e = rw (e, p) (record { raised = omega arith; same_full = refl })
-
-  pub not_second : y ≡ false → w' ≡ w → Counted w w' x y
-  not_second p e = rw (e, p) (record { raised = rw and-false (omega arith); same_full = refl })
 
 pub at_most_one : (x : Bool) → cond x 1 0 ≤ 1
 at_most_one true = omega arith

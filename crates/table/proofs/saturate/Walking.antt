@@ -2,12 +2,12 @@
 -- they were. Assumes nothing.
 use mathlib.Core.Path.{◌≡◌, refl, sym, ◌∙◌}
 use mathlib.Core.List.{List}
-use mathlib.Core.Bool.{true, false, cond, ◌&&◌, true≢false}
+use mathlib.Core.Bool.{true, cond, ◌&&◌}
 use mathlib.Core.Logic.{◌⊎◌, inl, inr}
 use Prim.Native.Nat.{ℕ, suc, ◌+◌, ◌-◌, ◌≤◌, ◌<◌}
 use native.Mathlib.Nat.{zero-add}
 use native.Mathlib.Omega.{arith}
-use borrow.Author.Tests.{lt-ltb, le-ltb, ltb-true}
+use borrow.Author.Tests.{lt-ltb, le-ltb}
 use lib.ListN.{length}
 use lib.Dec.{ltb}
 use Rattle.model.specs.Term.{Node, arguments, Book, Bindings}
@@ -15,14 +15,15 @@ use Rattle.model.specs.Table.{is_hole, Table, entry, turn, visit, walk}
 use Rattle.model.specs.Step.{turned}
 use Rattle.theory.proofs.Table.Place.{lt-or-le, grown, place_all-old, place_all-longer, turn-length, turn_other, visit_cases, visit_extends, Walked, on, over, walk_cases, walk_extends}
 use Rattle.theory.proofs.Table.WalkLength.{to_turn, walk_split, walk_idle, walk-longer}
-use Rattle.table.specs.place.Stands.{Stands, GivenTable, Whatever}
-use Rattle.table.specs.visit.Visiting.{ToVisit, IsVisited}
+use Rattle.refusal.specs.declared.Refusal.{Refusal}
+use Rattle.table.specs.place.Stands.{Stands, IsFull, GivenTable, Whatever}
+use Rattle.table.specs.visit.Visiting.{ToVisit, Visits}
 use Rattle.table.specs.declared.visit.Visited.{Visited}
 use Rattle.table.proofs.place.Placing.{few-entries, stands-reaches}
 use Rattle.table.proofs.visit.Sizes.{SameSizes, same-sizes, sizes_trans}
-use Rattle.table.specs.saturate.Walking.{ToWalk, IsWalked}
+use Rattle.table.specs.saturate.Walking.{ToWalk, Walks}
 use Rattle.table.specs.declared.saturate.Walked.{Walked as Answer}
-use Rattle.table.proofs.saturate.Turned.{turned_none, turned-alike, turned_set, Counted, at_most_one}
+use Rattle.table.proofs.saturate.Turned.{turned_none, turned-alike, turned_set, at_most_one}
 
 module _ (b : Book) (β : Bindings) where
   -- a visit leaves the other entries
@@ -88,28 +89,22 @@ pub record Walking (rows roots names entries₀ lefts₀ rights₀ cells₀ : Li
     (entries lefts rights cells : List ℕ) (w : Answer) (i : ℕ) : Type 0 where
   pub sizes : SameSizes entries₀ lefts₀ rights₀ cells₀ entries lefts rights cells
   pub few : w.turned ≤ i
-  pub not_full : w.full ≡ false
   pub so_far : Whatever (ToWalk rows roots names entries₀ lefts₀ rights₀ cells₀ capacity m)
       (WalkedTo entries lefts rights cells capacity w.turned w.count i)
 
 pub walking_none : (rows roots names entries lefts rights cells : List ℕ) (capacity m : ℕ)
-    → Walking rows roots names entries lefts rights cells capacity m entries lefts rights cells (record { turned = 0; count = m; full = false }) 0
+    → Walking rows roots names entries lefts rights cells capacity m entries lefts rights cells (record { turned = 0; count = m }) 0
 unfolding walk
 walking_none rows roots names entries lefts rights cells capacity m =
     record {
       sizes = same-sizes entries lefts rights cells;
       few = omega arith;
-      not_full = refl;
       so_far = λ b β es q.
           record { stands = q.stands; within = omega arith; ahead = λ j l k. refl; old-turned = sym (turned_none es) };
     }
 
 module _ {rows roots names entries₀ lefts₀ rights₀ cells₀ : List ℕ} {capacity m : ℕ} {entries lefts rights cells : List ℕ} {w : Answer} {i : ℕ}
     (h : Walking rows roots names entries₀ lefts₀ rights₀ cells₀ capacity m entries lefts rights cells w i) where
-  -- the table is within the capacity
-  pub count-few : GivenTable (ToWalk rows roots names entries₀ lefts₀ rights₀ cells₀ capacity m) → w.count ≤ capacity
-  count-few g = few-entries (h.so_far _ _ _ g.known).stands
-
   module _ (l : i < w.count) where
     -- what the next visit asks
     to_visit : (b : Book) (β : Bindings) (es : Table) → ToWalk rows roots names entries₀ lefts₀ rights₀ cells₀ capacity m b β es
@@ -121,63 +116,57 @@ module _ {rows roots names entries₀ lefts₀ rights₀ cells₀ : List ℕ} {c
     next_given g =
         record { book = g.book; bound = g.bound; table = walk g.book g.bound i 0 g.table; known = to_visit _ _ _ g.known }
 
+    -- the walk one visit further
+    further : (b : Book) (β : Bindings) (es : Table) → ToWalk rows roots names entries₀ lefts₀ rights₀ cells₀ capacity m b β es
+        → walk b β (i + 1) 0 es ≡ visit b β (walk b β i 0 es) i
+    further b β es q = walk_more b β es i (omega (arith, (h.so_far b β es q).stands.count))
+
+    -- it needs entries beyond the capacity
+    pub walking_full : {e : Refusal} → Whatever (ToVisit rows roots names entries lefts rights cells capacity w.count i) (λ b β es. IsFull capacity e (visit b β es i))
+        → Whatever (ToWalk rows roots names entries₀ lefts₀ rights₀ cells₀ capacity m) (λ b β es. IsFull capacity e (walk b β (suc capacity) 0 es))
+    walking_full beyond b β es q =
+        let is = beyond b β _ (to_visit b β es q) in
+        let steps : i + 1 ≤ suc capacity = omega (arith, few-entries (h.so_far b β es q).stands) in
+        let longer = rw (further b β es q) at (walk-longer b β (i + 1) (suc capacity) es steps) in
+        record { full = is.full; beyond = omega (arith, is.beyond) }
+
+    -- it is made
     module _ {v : Visited} {entries' lefts' rights' cells' : List ℕ}
         (visited : Whatever (ToVisit rows roots names entries lefts rights cells capacity w.count i)
-        (IsVisited entries' lefts' rights' cells' capacity i v)) where
-      -- the walk one visit further
-      further : (b : Book) (β : Bindings) (es : Table) → ToWalk rows roots names entries₀ lefts₀ rights₀ cells₀ capacity m b β es
-          → walk b β (i + 1) 0 es ≡ visit b β (walk b β i 0 es) i
-      further b β es q = walk_more b β es i (omega (arith, (h.so_far b β es q).stands.count))
-
-      -- it needs entries beyond the capacity
-      pub walking_full : v.full ≡ true → Whatever (ToWalk rows roots names entries₀ lefts₀ rights₀ cells₀ capacity m)
-          (IsWalked entries' lefts' rights' cells' capacity (record { turned = w.turned; count = w.count; full = true }))
-      walking_full f b β es q =
-          let beyond = ltb-true capacity _ (sym (visited b β _ (to_visit b β es q)).reaches.is_full ∙ f) in
-          let steps : i + 1 ≤ suc capacity = omega (arith, few-entries (h.so_far b β es q).stands) in
-          let longer = rw (further b β es q) at (walk-longer b β (i + 1) (suc capacity) es steps) in
+        (Visits entries' lefts' rights' cells' capacity i v)) {t : ℕ} (raised : t ≡ w.turned + cond (v.turned && ltb i m) 1 0) where
+      walked_to : (b : Book) (β : Bindings) (es : Table) → ToWalk rows roots names entries₀ lefts₀ rights₀ cells₀ capacity m b β es
+          → WalkedTo entries' lefts' rights' cells' capacity t v.count (i + 1) b β es
+      walked_to b β es q =
+          let so = h.so_far b β es q in
+          let done = visited b β _ (to_visit b β es q) in
+          let stands = done.reaches.stands in
+          let here : i < length (walk b β i 0 es) = omega (arith, so.stands.count) in
+          let longer = (visit_extends b β (walk b β i 0 es) i).longer in
+          let old = (walk_extends b β i 0 es).longer in
+          let more = further b β es q in
           record {
-            reaches = record { is_full = sym (lt-ltb capacity _ (omega arith)); stands = λ x. absurd (true≢false x) };
-            old-turned = λ x. absurd (true≢false x);
+            stands = rw more stands;
+            within = omega (arith, stands.count, so.stands.count);
+            ahead = λ j p k. rw more (visit_other b β (walk b β i 0 es) i j (omega arith) (λ e. omega arith) ∙ so.ahead j (omega arith) k);
+            old-turned =
+                rw more
+                (raised ∙ rw (so.old-turned, done.turned, q.stands.count)
+                (sym (turned-visit b β es (walk b β i 0 es) i old here (λ k. sym (so.ahead i (omega arith) k)))));
           }
 
-      -- it is made
-      module _ (f : v.full ≡ false) {w' : Answer} (c : Counted w w' v.turned (ltb i m)) where
-        walked_to : (b : Book) (β : Bindings) (es : Table) → ToWalk rows roots names entries₀ lefts₀ rights₀ cells₀ capacity m b β es
-            → WalkedTo entries' lefts' rights' cells' capacity w'.turned v.count (i + 1) b β es
-        walked_to b β es q =
-            let so = h.so_far b β es q in
-            let done = visited b β _ (to_visit b β es q) in
-            let stands = done.reaches.stands f in
-            let here : i < length (walk b β i 0 es) = omega (arith, so.stands.count) in
-            let longer = (visit_extends b β (walk b β i 0 es) i).longer in
-            let old = (walk_extends b β i 0 es).longer in
-            let more = further b β es q in
-            record {
-              stands = rw more stands;
-              within = omega (arith, stands.count, so.stands.count);
-              ahead = λ j p k. rw more (visit_other b β (walk b β i 0 es) i j (omega arith) (λ e. omega arith) ∙ so.ahead j (omega arith) k);
-              old-turned =
-                  rw more
-                  (c.raised ∙ rw (so.old-turned, done.turned, q.stands.count)
-                  (sym (turned-visit b β es (walk b β i 0 es) i old here (λ k. sym (so.ahead i (omega arith) k)))));
-            }
-
-        pub walking_more : SameSizes entries lefts rights cells entries' lefts' rights' cells'
-            → Walking rows roots names entries₀ lefts₀ rights₀ cells₀ capacity m entries' lefts' rights' cells'
-            (record { turned = w'.turned; count = v.count; full = w'.full }) (i + 1)
-        walking_more sizes =
-            record {
-              sizes = sizes_trans h.sizes sizes;
-              few = omega (arith, c.raised, h.few, at_most_one (v.turned && ltb i m));
-              not_full = c.same_full ∙ h.not_full;
-              so_far = walked_to;
-            }
+      pub walking_more : SameSizes entries lefts rights cells entries' lefts' rights' cells'
+          → Walking rows roots names entries₀ lefts₀ rights₀ cells₀ capacity m entries' lefts' rights' cells' (record { turned = t; count = v.count }) (i + 1)
+      walking_more sizes =
+          record {
+            sizes = sizes_trans h.sizes sizes;
+            few = omega (arith, raised, h.few, at_most_one (v.turned && ltb i m));
+            so_far = walked_to;
+          }
 
   -- it has reached the end
   pub walking_all : w.count ≤ i → Whatever (ToWalk rows roots names entries₀ lefts₀ rights₀ cells₀ capacity m)
-      (IsWalked entries lefts rights cells capacity w)
+      (Walks entries lefts rights cells capacity w)
   walking_all end b β es q =
       let so = h.so_far b β es q in
       let ended = walk_end b β es i capacity (omega (arith, few-entries so.stands, so.within)) (omega (arith, so.stands.count)) in
-      record { reaches = rw (ended, h.not_full) (stands-reaches so.stands); old-turned = λ x. rw ended so.old-turned }
+      record { reaches = rw ended (stands-reaches so.stands); old-turned = rw ended so.old-turned }

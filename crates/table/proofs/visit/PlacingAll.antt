@@ -1,13 +1,11 @@
 -- Placing argument pairs one by one: after j of them the slices hold the table with those, and each has its entry. Assumes nothing.
 use mathlib.Core.Path.{◌≡◌, refl, ap, sym, ◌∙◌}
 use mathlib.Core.List.{List, [], ◌∷◌, ◌++◌}
-use mathlib.Core.Bool.{true, false, true≢false}
 use Prim.Native.Nat.{ℕ, ◌+◌, ◌*◌, ◌≤◌, ◌<◌}
 use native.Mathlib.Numerals.{add-one}
 use native.Mathlib.Omega.{arith}
-use borrow.Author.Tests.{lt-ltb, ltb-true}
 use lib.ListN.{length, take, drop, set, replicate, length-drop, take-append-drop}
-use lib.Seq.{take_all, take-suc, length-take-le, get_or-take, get_or-drop}
+use lib.Seq.{take-suc, length-take-le, get_or-take, get_or-drop}
 use Rattle.model.specs.Limits.{max_arity}
 use Rattle.model.specs.Lists.{pairwise, padded}
 use Rattle.model.specs.Term.{Book, Bindings}
@@ -16,21 +14,37 @@ use Rattle.model.specs.Area.{term_words}
 use Rattle.theory.proofs.Lists.Laws.{length-pairwise}
 use Rattle.theory.proofs.Table.Place.{Extends, entry_of_extends, place_all_extends, place_all-longer, place_all_has, place-one}
 use Rattle.layout.specs.limits.Rows.{at}
-use Rattle.table.specs.place.Stands.{Stands, GivenTable, Whatever}
-use Rattle.table.specs.place.Placing.{ToPlace, IsPlaced}
-use Rattle.table.specs.visit.Visiting.{arguments_at, ToPlaceAll, ArePlaced}
+use Rattle.refusal.specs.declared.Refusal.{Refusal}
+use Rattle.table.specs.place.Stands.{Stands, IsFull, GivenTable, Whatever}
+use Rattle.table.specs.place.Placing.{ToPlace, Places}
+use Rattle.table.specs.visit.Visiting.{arguments_at, ToPlaceAll}
 use Rattle.table.specs.declared.place.Placed.{Placed}
 use Rattle.table.proofs.visit.Lists.{pairwise_append, place_all-append, pairwise-alike, padded-set}
 use Rattle.table.proofs.visit.Sizes.{SameSizes, same-sizes, sizes_trans}
-use Rattle.table.proofs.place.Placing.{stands-reaches}
 
 -- the words behind the count in the row of a term
 module _ (rows : List ℕ) (t : ℕ) (fits : term_words * t + 2 + at rows (term_words * t + 1) ≤ length rows) where
   pub length-row : length (arguments_at rows t) ≡ at rows (term_words * t + 1)
   length-row = length-take-le (at rows (term_words * t + 1)) (drop (term_words * t + 2) rows) (rw length-drop (omega arith))
 
-  pub row_at : (j : ℕ) → j < at rows (term_words * t + 1) → at rows (term_words * t + 2 + j) ≡ at (arguments_at rows t) j
+  row_at : (j : ℕ) → j < at rows (term_words * t + 1) → at rows (term_words * t + 2 + j) ≡ at (arguments_at rows t) j
   row_at j h = rw (get_or-take, get_or-drop)
+
+-- There is a pair j, and it stands in the rows of the terms l and r.
+pub record PairAt (rows : List ℕ) (l r j : ℕ) : Type 0 where
+  pub there : j < length (arguments_at rows l)
+  pub left : at rows (term_words * l + 2 + j) ≡ at (arguments_at rows l) j
+  pub right : at rows (term_words * r + 2 + j) ≡ at (arguments_at rows r) j
+
+pub pair-at : (rows : List ℕ) (l r j : ℕ) → term_words * l + 2 + at rows (term_words * l + 1) ≤ length rows
+    → term_words * r + 2 + at rows (term_words * r + 1) ≤ length rows
+    → length (arguments_at rows l) ≡ length (arguments_at rows r) → j < at rows (term_words * l + 1) → PairAt rows l r j
+pair-at rows l r j p q e h =
+    record {
+      there = omega (arith, length-row rows l p);
+      left = row_at rows l p j h;
+      right = row_at rows r q j (omega (arith, length-row rows l p, length-row rows r q));
+    }
 
 -- The table with the first j pairs, and the entries of those pairs in it.
 abbrev pub up_to : List ℕ → List ℕ → ℕ → Book → Bindings → Table → Table
@@ -122,54 +136,35 @@ module _ {names entries₀ lefts₀ rights₀ cells₀ : List ℕ} {capacity m :
     next_given g =
         record { book = g.book; bound = g.bound; table = up_to ls rs j g.book g.bound g.table; known = to_place _ _ _ g.known }
 
+    -- it is full
+    pub placing_full : {e : Refusal} → Whatever (ToPlace names entries lefts rights cells capacity count x y) (λ b β es. IsFull capacity e (place b β es x y))
+        → Whatever (ToPlaceAll names entries₀ lefts₀ rights₀ cells₀ capacity m ls rs) (λ b β es. IsFull capacity e (place_all b β es ls rs))
+    placing_full beyond b β es q =
+        let is = rw (left, right) at (beyond b β _ (to_place b β es q)) in
+        let longer = rw (up_more ls rs q.pairs j t b β es) at (up_longer ls rs q.pairs j t b β es) in
+        record { full = is.full; beyond = omega (arith, is.beyond) }
+
+    -- it is placed
     module _ {p : Placed} {entries' lefts' rights' cells' : List ℕ}
         (placed : Whatever (ToPlace names entries lefts rights cells capacity count x y)
-        (IsPlaced entries' lefts' rights' cells' capacity x y p)) where
-      is-placed : (b : Book) (β : Bindings) (es : Table) → ToPlaceAll names entries₀ lefts₀ rights₀ cells₀ capacity m ls rs b β es
-          → IsPlaced entries' lefts' rights' cells' capacity (at ls j) (at rs j) p b β (up_to ls rs j b β es)
-      is-placed b β es q = rw (left, right) at (placed b β _ (to_place b β es q))
-
-      -- it is full
-      pub placing_full : p.full ≡ true → Whatever (ToPlaceAll names entries₀ lefts₀ rights₀ cells₀ capacity m ls rs)
-          (ArePlaced entries' lefts' rights' cells' capacity ls rs (record { entries = numbers; count = count; full = true }))
-      placing_full f b β es q =
-          let over = ltb-true capacity _ (sym (is-placed b β es q).reaches.is_full ∙ f) in
-          let longer = rw (up_more ls rs q.pairs j t b β es) at (up_longer ls rs q.pairs j t b β es) in
-          record {
-            reaches = record { is_full = sym (lt-ltb capacity _ (omega arith)); stands = λ x. absurd (true≢false x) };
-            their_entries = λ x. absurd (true≢false x);
-          }
-
-      -- it is placed
-      placed_to : p.full ≡ false → (b : Book) (β : Bindings) (es : Table) → ToPlaceAll names entries₀ lefts₀ rights₀ cells₀ capacity m ls rs b β es
+        (Places entries' lefts' rights' cells' capacity x y p)) where
+      placed_to : (b : Book) (β : Bindings) (es : Table) → ToPlaceAll names entries₀ lefts₀ rights₀ cells₀ capacity m ls rs b β es
           → PlacedTo entries' lefts' rights' cells' capacity ls rs (set numbers j p.entry) p.count (j + 1) b β es
-      placed_to f b β es q =
-          let done = is-placed b β es q in
+      placed_to b β es q =
+          let done = rw (left, right) at (placed b β _ (to_place b β es q)) in
           let more = up_more ls rs q.pairs j t b β es in
           let so = i.so_far b β es q in
           let long : length (entries_to ls rs j b β es) ≡ j =
           length-pairwise _ (take j ls) (take j rs) (firsts ls rs q.pairs j t b β es) ∙ length-take-le j ls (omega arith) in
           record {
-            stands = rw more (done.reaches.stands f);
+            stands = rw more done.reaches.stands;
             their_entries =
-                rw (so.their_entries, done.its_entry f, ← more)
+                rw (so.their_entries, done.its_entry, ← more)
                 (ap (λ (k : ℕ). set (padded max_arity (entries_to ls rs j b β es)) k (entry_of b β (up_to ls rs (j + 1) b β es) (at ls j) (at rs j))) (sym long) ∙
                 padded-set max_arity (entries_to ls rs j b β es) _ (omega (arith, q.few)) ∙
                 ap (padded max_arity) (sym (entries-more ls rs q.pairs j t b β es)));
           }
 
-      pub placing_more : p.full ≡ false → SameSizes entries lefts rights cells entries' lefts' rights' cells'
+      pub placing_more : SameSizes entries lefts rights cells entries' lefts' rights' cells'
           → PlacingAll names entries₀ lefts₀ rights₀ cells₀ capacity m ls rs entries' lefts' rights' cells' (set numbers j p.entry) p.count (j + 1)
-      placing_more f sizes = record { sizes = sizes_trans i.sizes sizes; within = omega arith; so_far = placed_to f }
-
-  -- all are placed
-  pub placing_all : length ls ≤ j → Whatever (ToPlaceAll names entries₀ lefts₀ rights₀ cells₀ capacity m ls rs)
-      (ArePlaced entries lefts rights cells capacity ls rs (record { entries = numbers; count = count; full = false }))
-  placing_all l b β es q =
-      let so = i.so_far b β es q in
-      let all-ls : take j ls ≡ ls = take_all j ls l in
-      let all-rs : take j rs ≡ rs = take_all j rs (omega (arith, q.pairs)) in
-      record {
-        reaches = rw (all-ls, all-rs) at (stands-reaches so.stands);
-        their_entries = λ x. rw (all-ls, all-rs) at so.their_entries;
-      }
+      placing_more sizes = record { sizes = sizes_trans i.sizes sizes; within = omega arith; so_far = placed_to }

@@ -1,7 +1,7 @@
 -- Turning an entry in slices: its argument pairs are placed, and its row is put anew. Assumes nothing.
-use mathlib.Core.Path.{◌≡◌, refl, ap, sym, ◌∙◌}
+use mathlib.Core.Path.{◌≡◌, ap, sym, ◌∙◌}
 use mathlib.Core.List.{List, []}
-use mathlib.Core.Bool.{Bool, true, false, true≢false}
+use mathlib.Core.Bool.{true}
 use Prim.Native.Nat.{ℕ, ◌+◌, ◌*◌, ◌-◌, ◌≤◌, ◌<◌}
 use native.Mathlib.Omega.{arith}
 use lib.ListN.{length, get_or, length-append}
@@ -9,7 +9,7 @@ use lib.Seq.{paste, get_or_at}
 use Rattle.model.specs.Limits.{max_arity}
 use Rattle.model.specs.Lists.{pairwise}
 use Rattle.model.specs.Term.{Node, symbol, arguments, alike, Book, Bindings}
-use Rattle.model.specs.Table.{common, Entry, Table, entry, entry_of, turn}
+use Rattle.model.specs.Table.{common, Entry, Table, entry, entry_of, place_all, turn}
 use Rattle.model.specs.Area.{term_words, entry_row_words, entry_words, kind_words}
 use Rattle.model.specs.Report.{kind_arguments}
 use Rattle.theory.proofs.Lists.Laws.{length-pairwise}
@@ -23,10 +23,10 @@ use Rattle.layout.specs.entry.Row.{row_of}
 use Rattle.layout.specs.declared.entry.Entry.{Entry as Row}
 use Rattle.soundness.specs.kinds.Known.{RowsKnown}
 use Rattle.soundness.proofs.kinds.Rows.{formed, term-row, row-end, argument-terms}
-use Rattle.table.specs.place.Stands.{Stands, Reaches}
-use Rattle.table.specs.visit.Visiting.{arguments_at, ToPlaceAll, ArePlaced, turned_row, IsTurned}
+use Rattle.refusal.specs.declared.Refusal.{Refusal}
+use Rattle.table.specs.place.Stands.{Stands, Reaches, IsFull}
+use Rattle.table.specs.visit.Visiting.{arguments_at, ToPlaceAll, PlacesAll, turned_row}
 use Rattle.table.specs.declared.visit.Arguments.{Arguments}
-use Rattle.table.specs.declared.visit.Visited.{Visited}
 use Rattle.table.proofs.place.Held.{held-set}
 use Rattle.table.proofs.place.Names.{names_same}
 use Rattle.table.proofs.place.Placing.{stands-reaches}
@@ -53,16 +53,6 @@ module _ (e : Row) (x : Entry) (same : row_of e ≡ entry_words x) (wide : lengt
       let kind : length (kind_words x.kind) ≡ 11 = omega (arith, simp length-append at wide) in
       sym (get_or_at e.arguments e.same_as [] 0 8 long) ∙ ap (λ (ws : List ℕ). get_or ws 13 0) same ∙
       get_or_at (kind_words x.kind) x.same_as [] 0 11 kind
-
--- the row stays where the argument pairs need entries beyond the capacity, and is put anew where they are placed
-module _ (rows entries : List ℕ) (i l : ℕ) (e : Row) (a : Arguments) where
-  pub turned_none : a.full ≡ true → IsTurned rows entries entries i l e a (record { turned = true; count = a.count; full = true })
-  turned_none f = record { answer = rw f; put = rw f }
-
-  pub turned-put : {entries' : List ℕ} → a.full ≡ false
-      → entries' ≡ paste entries (entry_row_words * i) (row_of (turned_row rows l e a.entries)) entry_row_words
-      → IsTurned rows entries entries' i l e a (record { turned = true; count = a.count; full = false })
-  turned-put f p = record { answer = rw f; put = rw f p }
 
 -- the words behind the count of an application are its arguments
 module _ (rows : List ℕ) (t : ℕ) (d : at rows (term_words * t) ≡ 0 → ⊥) where
@@ -120,71 +110,66 @@ module _ {rows names entries lefts rights cells : List ℕ} {capacity m i : ℕ}
         few = rw (row-arguments rows l left-app) few;
       }
 
+  -- they need entries beyond the capacity
+  pub turn_full : {x : Refusal} → IsFull capacity x (place_all b β es (arguments_at rows l) (arguments_at rows r))
+      → IsFull capacity x (turn b β es i (entry es i) n o)
+  turn_full f =
+      record { full = f.full; beyond = rw turn-length (rw (row-arguments rows l left-app, row-arguments rows r right-app) at f.beyond) }
+
+  -- they are placed
   module _ {a : Arguments} {entries' lefts' rights' cells' : List ℕ}
-      (placed : ArePlaced entries' lefts' rights' cells' capacity (arguments_at rows l) (arguments_at rows r) a b β es) where
-    done : ArePlaced entries' lefts' rights' cells' capacity (arguments n) (arguments o) a b β es
+      (placed : PlacesAll entries' lefts' rights' cells' capacity (arguments_at rows l) (arguments_at rows r) a b β es) where
+    done : PlacesAll entries' lefts' rights' cells' capacity (arguments n) (arguments o) a b β es
     done = rw (row-arguments rows l left-app, row-arguments rows r right-app) at placed
 
-    -- they need entries beyond the capacity
-    turn_full : (entries'' : List ℕ) → a.full ≡ true → Reaches entries'' lefts' rights' cells' capacity a.count a.full b β (turn b β es i (entry es i) n o)
-    turn_full entries'' f =
-        record { is_full = done.reaches.is_full ∙ rw (turn-length b β es i n o); stands = λ x. absurd (true≢false (sym f ∙ x)) }
+    abbrev args : List ℕ
+    args = pairwise (entry_of b β (grown b β es i n o)) (arguments n) (arguments o)
 
-    -- they are placed
-    module _ (f : a.full ≡ false) where
-      abbrev args : List ℕ
-      args = pairwise (entry_of b β (grown b β es i n o)) (arguments n) (arguments o)
+    abbrev turned_entry : Entry
+    turned_entry = record { left = (entry es i).left; right = (entry es i).right; kind = common (symbol n) args; same_as = (entry es i).same_as }
 
-      abbrev turned_entry : Entry
-      turned_entry = record { left = (entry es i).left; right = (entry es i).right; kind = common (symbol n) args; same_as = (entry es i).same_as }
+    here : i < length es
+    here = omega (arith, q.there, q.stands.count)
 
-      here : i < length es
-      here = omega (arith, q.there, q.stands.count)
+    there : i < length (grown b β es i n o)
+    there = omega (arith, here, place_all-longer b β es (arguments n) (arguments o))
 
-      there : i < length (grown b β es i n o)
-      there = omega (arith, here, place_all-longer b β es (arguments n) (arguments o))
+    args_length : length args ≡ length (arguments n)
+    args_length = length-pairwise _ (arguments n) (arguments o) counts
 
-      args_length : length args ≡ length (arguments n)
-      args_length = length-pairwise _ (arguments n) (arguments o) counts
+    turned-row : row_of (turned_row rows l e a.entries) ≡ entry_words turned_entry
+    unfolding row_of entry_words kind_words
+    turned-row =
+        let wide = q.stands.held.wide i here in
+        rw (
+          row-left e (entry es i) q.is-entry wide,
+          row-right e (entry es i) q.is-entry wide,
+          row-same_as e (entry es i) q.is-entry wide,
+          ← applied-symbol rows l left-app,
+          ← arity,
+          ← args_length,
+          done.their_entries,
+        )
 
-      turned-row : row_of (turned_row rows l e a.entries) ≡ entry_words turned_entry
-      unfolding row_of entry_words kind_words
-      turned-row =
-          let wide = q.stands.held.wide i here in
-          rw (
-            row-left e (entry es i) q.is-entry wide,
-            row-right e (entry es i) q.is-entry wide,
-            row-same_as e (entry es i) q.is-entry wide,
-            ← applied-symbol rows l left-app,
-            ← arity,
-            ← args_length,
-            done.their_entries f,
-          )
-
-      turned-wide : length (entry_words turned_entry) ≡ entry_row_words
-      unfolding kind_arguments
-      turned-wide = width_entry turned_entry (omega (arith, args_length, few))
-
-      module _ {entries'' : List ℕ} (put : entries'' ≡ paste entries' (entry_row_words * i) (row_of (turned_row rows l e a.entries)) entry_row_words)
-          (size : length entries'' ≡ length entries') where
-        turn-stands : Stands entries'' lefts' rights' cells' capacity a.count b β (turn b β es i (entry es i) n o)
-        unfolding turn
-        turn-stands =
-            let s = done.reaches.stands f in
-            record {
-              count = s.count ∙ sym (turn-length b β es i n o);
-              held = rw (put, turned-row) (held-set s.held turned_entry turned-wide i there);
-              long = size ∙ s.long;
-              room = s.room;
-              indexed = s.indexed;
-              names = names_same s.names _ (turn_grown b β es i n o here) (turn-length b β es i n o);
-            }
+    turned-wide : length (entry_words turned_entry) ≡ entry_row_words
+    unfolding kind_arguments
+    turned-wide = width_entry turned_entry (omega (arith, args_length, few))
 
     -- so turning leads to the turned table
-    module _ {v : Visited} {entries'' : List ℕ} (turned : IsTurned rows entries' entries'' i l e a v) (size : length entries'' ≡ length entries') where
-      reaches-at : (t : Bool) → a.full ≡ t → Reaches entries'' lefts' rights' cells' capacity a.count a.full b β (turn b β es i (entry es i) n o)
-      reaches-at true f = turn_full entries'' f
-      reaches-at false f = rw f (stands-reaches (turn-stands f (rw f at turned.put) size))
+    module _ {entries'' : List ℕ} (put : entries'' ≡ paste entries' (entry_row_words * i) (row_of (turned_row rows l e a.entries)) entry_row_words)
+        (size : length entries'' ≡ length entries') where
+      turn-stands : Stands entries'' lefts' rights' cells' capacity a.count b β (turn b β es i (entry es i) n o)
+      unfolding turn
+      turn-stands =
+          let s = done.reaches.stands in
+          record {
+            count = s.count ∙ sym (turn-length b β es i n o);
+            held = rw (put, turned-row) (held-set s.held turned_entry turned-wide i there);
+            long = size ∙ s.long;
+            room = s.room;
+            indexed = s.indexed;
+            names = names_same s.names _ (turn_grown b β es i n o here) (turn-length b β es i n o);
+          }
 
-      pub turn-reaches : Reaches entries'' lefts' rights' cells' capacity a.count a.full b β (turn b β es i (entry es i) n o)
-      turn-reaches = reaches-at a.full refl
+      pub turn-reaches : Reaches entries'' lefts' rights' cells' capacity a.count b β (turn b β es i (entry es i) n o)
+      turn-reaches = stands-reaches turn-stands

@@ -1,7 +1,7 @@
 -- A visit of an entry in slices: it is common, or its roots are not alike, or it turns. Assumes nothing.
 use mathlib.Core.Path.{◌≡◌, refl, sym, ◌∙◌}
 use mathlib.Core.List.{List, ◌++◌}
-use mathlib.Core.Bool.{Bool, true, false, ◌&&◌, and-false}
+use mathlib.Core.Bool.{true, false, ◌&&◌, and-false}
 use mathlib.Core.Logic.{inl, inr}
 use Prim.Native.Nat.{ℕ, ◌+◌, ◌*◌, ◌≤◌, ◌<◌}
 use native.Mathlib.Omega.{arith}
@@ -16,8 +16,9 @@ use Rattle.layout.specs.limits.Rows.{at, node_of}
 use Rattle.layout.specs.entry.Row.{row_of}
 use Rattle.layout.specs.declared.entry.Entry.{Entry as Row}
 use Rattle.soundness.proofs.kinds.Rows.{row-end, root-lt, root-row}
-use Rattle.table.specs.place.Stands.{Reaches}
-use Rattle.table.specs.visit.Visiting.{ToVisit, IsVisited}
+use Rattle.refusal.specs.declared.Refusal.{Refusal}
+use Rattle.table.specs.place.Stands.{Reaches, IsFull}
+use Rattle.table.specs.visit.Visiting.{ToVisit, Visits}
 use Rattle.table.specs.declared.visit.Visited.{Visited}
 use Rattle.table.proofs.place.Held.{held-row}
 use Rattle.table.proofs.place.Placing.{stands-reaches}
@@ -84,17 +85,17 @@ module _ {rows roots names entries lefts rights cells : List ℕ} {capacity m i 
 
   -- an entry that does not turn
   idle : is_hole (entry es i).kind && alike (root b β (entry es i).left) (root b β (entry es i).right) ≡ false
-      → IsVisited entries lefts rights cells capacity i (record { turned = false; count = m; full = false }) b β es
+      → Visits entries lefts rights cells capacity i (record { turned = false; count = m }) b β es
   idle h = record { reaches = rw (visit_idle b β es i h) (stands-reaches q.stands); turned = sym h }
 
   -- it is common
-  pub visit-common : (e.kind ≡ 0 → ⊥) → IsVisited entries lefts rights cells capacity i (record { turned = false; count = m; full = false }) b β es
+  pub visit-common : (e.kind ≡ 0 → ⊥) → Visits entries lefts rights cells capacity i (record { turned = false; count = m }) b β es
   unfolding entry_words
   visit-common d = idle (rw (kind-common (entry es i).kind _ (λ z. d (kind-word ∙ z))))
 
   -- its roots are not alike
   pub visit_unlike : alike (node_of rows (at roots e.left)) (node_of rows (at roots e.right)) ≡ false
-      → IsVisited entries lefts rights cells capacity i (record { turned = false; count = m; full = false }) b β es
+      → Visits entries lefts rights cells capacity i (record { turned = false; count = m }) b β es
   visit_unlike a = idle (rw (left-root, right-root, a) (and-false (is_hole (entry es i).kind)))
 
   -- it turns
@@ -111,16 +112,22 @@ module _ {rows roots names entries lefts rights cells : List ℕ} {capacity m i 
           are_alike = a;
         }
 
-    pub visit-turned : e.kind ≡ 0 → {v : Visited} {count : ℕ} {full : Bool} {entries' lefts' rights' cells' : List ℕ}
-        → v ≡ record { turned = true; count = count; full = full }
-        → Reaches entries' lefts' rights' cells' capacity count full b β
-        (turn b β es i (entry es i) (node_of rows (at roots e.left)) (node_of rows (at roots e.right)))
-        → IsVisited entries' lefts' rights' cells' capacity i v b β es
-    unfolding entry_words
-    visit-turned z answer reaches =
-        let h : is_hole (entry es i).kind ≡ true = kind-hole (entry es i).kind _ (sym kind-word ∙ z) in
-        rw answer
-        (record {
-          reaches = rw (visit-turns b β es i h (rw (left-root, right-root) a), left-root, right-root) reaches;
-          turned = rw (h, left-root, right-root) (sym a);
-        })
+    module _ (z : e.kind ≡ 0) where
+      turns : visit b β es i ≡ turn b β es i (entry es i) (node_of rows (at roots e.left)) (node_of rows (at roots e.right))
+      unfolding entry_words
+      turns =
+          let h : is_hole (entry es i).kind ≡ true = kind-hole (entry es i).kind _ (sym kind-word ∙ z) in
+          rw (visit-turns b β es i h (rw (left-root, right-root) a), left-root, right-root)
+
+      pub visit_full : {x : Refusal} → IsFull capacity x (turn b β es i (entry es i) (node_of rows (at roots e.left)) (node_of rows (at roots e.right)))
+          → IsFull capacity x (visit b β es i)
+      visit_full f = rw turns f
+
+      pub visit-turned : {v : Visited} {count : ℕ} {entries' lefts' rights' cells' : List ℕ} → v ≡ record { turned = true; count = count }
+          → Reaches entries' lefts' rights' cells' capacity count b β
+          (turn b β es i (entry es i) (node_of rows (at roots e.left)) (node_of rows (at roots e.right)))
+          → Visits entries' lefts' rights' cells' capacity i v b β es
+      unfolding entry_words
+      visit-turned answer reaches =
+          let h : is_hole (entry es i).kind ≡ true = kind-hole (entry es i).kind _ (sym kind-word ∙ z) in
+          rw answer (record { reaches = rw turns reaches; turned = rw (h, left-root, right-root) (sym a) })

@@ -1,9 +1,10 @@
 -- Placing a pair in a table in slices: what it asks, and what its answer and the slices are after it. Assumes nothing: these are
 -- definitions.
-use Rattle.std.specs.Prelude.{◌≡◌, List, false, ℕ, ◌<◌, length}
+use Rattle.std.specs.Prelude.{◌≡◌, List, ℕ, ◌<◌, length, Result, MatchResult}
 use Rattle.model.specs.Term.{Book, Bindings}
 use Rattle.model.specs.Table.{Table, entry_of, place}
-use Rattle.table.specs.place.Stands.{KnownNames, Stands, Reaches}
+use Rattle.refusal.specs.declared.Refusal.{Refusal}
+use Rattle.table.specs.place.Stands.{KnownNames, Stands, Reaches, IsFull}
 use Rattle.table.specs.declared.place.Placed.{Placed}
 
 -- A pair of terms to be placed in a table of m entries.
@@ -14,6 +15,11 @@ pub record ToPlace (names entries lefts rights cells : List ℕ) (capacity m l r
   pub right-term : r < length b
 
 -- It is placed, and has its entry.
-pub record IsPlaced (entries lefts rights cells : List ℕ) (capacity l r : ℕ) (p : Placed) (b : Book) (β : Bindings) (es : Table) : Type 0 where
-  pub reaches : Reaches entries lefts rights cells capacity p.count p.full b β (place b β es l r)
-  pub its_entry : p.full ≡ false → p.entry ≡ entry_of b β (place b β es l r) l r
+pub record Places (entries lefts rights cells : List ℕ) (capacity l r : ℕ) (p : Placed) (b : Book) (β : Bindings) (es : Table) : Type 0 where
+  pub reaches : Reaches entries lefts rights cells capacity p.count b β (place b β es l r)
+  pub its_entry : p.entry ≡ entry_of b β (place b β es l r) l r
+
+-- It is placed where that stays within the capacity, and else refused.
+abbrev pub IsPlaced : List ℕ → List ℕ → List ℕ → List ℕ → ℕ → ℕ → ℕ → Result Placed Refusal → Book → Bindings → Table → Type 0
+IsPlaced entries lefts rights cells capacity l r answer b β es =
+    MatchResult answer (λ p. Places entries lefts rights cells capacity l r p b β es) (λ e. IsFull capacity e (place b β es l r))

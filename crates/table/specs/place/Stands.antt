@@ -1,6 +1,8 @@
 -- A pair table in slices of words. The book, its bindings and the table are those of which this is known: no function takes the
 -- bindings. Assumes nothing: these are definitions.
-use Rattle.std.specs.Prelude.{◌≡◌, List, [], Bool, false, ℕ, ◌*◌, ◌≤◌, ◌<◌, length, ltb}
+use Rattle.std.specs.Prelude.{◌≡◌, List, [], ℕ, ◌*◌, ◌≤◌, ◌<◌, length}
+use Rattle.refusal.specs.declared.Refusal.{Refusal}
+use Rattle.refusal.specs.declared.Refusal.TheVariants.{Full}
 use Rattle.model.specs.Lists.{concat_map, padded}
 use Rattle.model.specs.Term.{Book, Bindings}
 use Rattle.model.specs.Table.{Table, entry}
@@ -32,11 +34,15 @@ pub record Stands (entries lefts rights cells : List ℕ) (capacity m : ℕ) (b 
   pub indexed : Indexed lefts rights cells m
   pub names : SideNames b β es lefts rights
 
--- A step of the table leads to this one: it is full exactly where that needs more entries than the capacity, and where it is not
--- full this table stands in the slices.
-pub record Reaches (entries lefts rights cells : List ℕ) (capacity m : ℕ) (full : Bool) (b : Book) (β : Bindings) (es : Table) : Type 0 where
-  pub is_full : full ≡ ltb capacity (length es)
-  pub stands : full ≡ false → Stands entries lefts rights cells capacity m b β es
+-- A step of the table leads to this one, which is within the capacity: it stands in the slices.
+pub record Reaches (entries lefts rights cells : List ℕ) (capacity m : ℕ) (b : Book) (β : Bindings) (es : Table) : Type 0 where
+  pub within : length es ≤ capacity
+  pub stands : Stands entries lefts rights cells capacity m b β es
+
+-- A step of the table leads to this one, which needs more entries than the capacity: the step is refused.
+pub record IsFull (capacity : ℕ) (e : Refusal) (es : Table) : Type 0 where
+  pub full : e ≡ Full
+  pub beyond : capacity < length es
 
 -- Something is known of some book, bindings and table.
 pub record GivenTable (P : Book → Bindings → Table → Type 0) : Type 0 where

@@ -1,7 +1,5 @@
 -- Room for the values of a book's terms is room for those of fewer. Assumes nothing.
-use mathlib.Core.List.{List}
-use Prim.Native.Nat.{ℕ, ◌≤◌}
-use native.Mathlib.Omega.{arith}
+use Rattle.std.proofs.Common.{List, ℕ, ◌≤◌, arith}
 use Rattle.pairs.proofs.Rooms.{room_fewer}
 use Rattle.values.specs.evaluate.Valued.{ValueRoom}
 

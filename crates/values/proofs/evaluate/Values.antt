@@ -1,10 +1,5 @@
 -- The values of the terms: the list, what each stands for, and its name. Assumes nothing.
-use mathlib.Core.Path.{◌≡◌, sym, ap, ◌∙◌}
-use mathlib.Core.List.{List, ◌++◌, map}
-use mathlib.Core.Bool.{Bool, true}
-use Prim.Native.Nat.{ℕ}
-use lib.ListN.{take, drop, take-append-drop}
-use lib.Seq.{take_at}
+use Rattle.std.proofs.Common.{◌≡◌, sym, ap, ◌∙◌, List, ◌++◌, map, Bool, true, ℕ, take, drop, take-append-drop, take_at}
 use Rattle.model.specs.Lists.{from}
 use Rattle.model.specs.Term.{deref, name, acyclic}
 use Rattle.theory.proofs.Lists.Laws.{true_T}

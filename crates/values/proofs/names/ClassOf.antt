@@ -1,13 +1,7 @@
 -- The class of a term, the first along the list with its value: it is found from the classes of what the value is made of, and
 -- for an application from the keys of the terms before it. Assumes nothing.
-use mathlib.Core.Path.{◌≡◌, refl, ap, ap₂, sym, ◌∙◌}
-use mathlib.Core.List.{List, [], ◌∷◌, map}
-use mathlib.Core.Option.{Option, none, some}
-use mathlib.Core.Logic.{◌⊎◌, inl, inr}
-use Prim.Native.Nat.{ℕ, suc, ◌*◌, ◌-◌, ◌≤◌, ◌<◌, zero-le, suc-le-suc}
-use native.Mathlib.Omega.{arith}
-use lib.ListN.{length, get_or, take}
-use lib.Seq.{get_or-take, length-take-le}
+use Rattle.std.proofs.Common.{◌≡◌, refl, ap, ap₂, sym, ◌∙◌, List, [], ◌∷◌, map, ◌⊎◌, inl, inr, ℕ, suc, ◌*◌, ◌≤◌, ◌<◌, zero-le, suc-le-suc, arith, length, get_or, take, get_or-take, length-take-le}
+use Rattle.std.proofs.Math.Option.{Option, none, some}
 use Rattle.model.specs.Lists.{first}
 use Rattle.model.specs.Term.{Node, var, app, arguments, Tree, free, node, Trees, more, trees, eq_tree, val}
 use Rattle.model.specs.Area.{term_words}
@@ -17,12 +11,12 @@ use Rattle.theory.proofs.Lists.Laws.{first_holds, first-least}
 use Rattle.theory.proofs.Table.Search.{lt-or-le}
 use Rattle.theory.proofs.Values.Equations.{eq_tree-eq, eq_tree_refl, val-free, val-bound, val-app}
 use Rattle.layout.specs.limits.Rows.{at, node_of, book_of, binding_of, bound_of}
-use Rattle.layout.proofs.limits.Rows.{length-book_of, get_or-book_of, get_or-bound_of, node-var, binding_none, binding_some, good_formed}
+use Rattle.layout.proofs.limits.Rows.{length-book_of, get_or-book_of, get_or-bound_of, node-var, good_formed}
 use Rattle.values.specs.order.Order.{parts_of, Before}
 use Rattle.values.specs.roots.Reading.{Listed, Readable}
 use Rattle.values.proofs.roots.Reading.{readable, node-arguments}
 use Rattle.values.proofs.roots.Settled.{list-fits, term-lt, settled-parts}
-use Rattle.values.specs.names.Keys.{key_of, key_at, Row, Rows, Earlier}
+use Rattle.values.specs.names.Keys.{key_of, key_at, Row, Rows}
 use Rattle.values.specs.names.Classes.{class_of, key_in, Classable}
 
 -- classes that agree on the arguments give the same key
@@ -247,44 +241,42 @@ module _ {rows bindings classes list : List ℕ} {n k place : ℕ} (a : Classabl
     λ e j q h. a.no_key e j q (sym (keys k (omega arith)) ∙ (h ∙ keys j (omega arith))),
   )
 
-  pub class-free : at rows (term_words * at list k) ≡ 0 → at bindings (at list k) ≡ 0 → at list k ≡ class_of rows bindings list n (at list k)
+  pub class-free : at rows (term_words * at list k) ≡ 0 → binding_of bindings (at list k) ≡ none → at list k ≡ class_of rows bindings list n (at list k)
   class-free p q =
       sym
       (class-free_by a.listed (at list k) t_lt (at list k)
-      (value-free a.listed (at list k) t_lt (node-var rows (at list k) p) (binding_none bindings (at list k) q)) _ _ refl refl)
+      (value-free a.listed (at list k) t_lt (node-var rows (at list k) p) q) _ _ refl refl)
 
-  pub class-bound : at rows (term_words * at list k) ≡ 0 → (at bindings (at list k) ≡ 0 → ⊥)
-      → at classes (at bindings (at list k) - 1) ≡ class_of rows bindings list n (at list k)
+  pub class-bound : at rows (term_words * at list k) ≡ 0 → (u : ℕ) → binding_of bindings (at list k) ≡ some u
+      → at classes u ≡ class_of rows bindings list n (at list k)
   unfolding parts_of
-  class-bound p q =
-      let o : binding_of bindings (at list k) ≡ some (at bindings (at list k) - 1) = binding_some bindings (at list k) q in
+  class-bound p u o =
       (rw (node-var rows (at list k) p, o) at
       (settled-parts a.listed (λ t w. w ≡ class_of rows bindings list n t) classes k a.settled a.within))
       0 (suc-le-suc zero-le)
-      ∙ sym (class_same a.listed (at list k) (at bindings (at list k) - 1) (value-bound a.listed (at list k) t_lt _ o))
+      ∙ sym (class_same a.listed (at list k) u (value-bound a.listed (at list k) t_lt _ o))
 
-  module _ (p : at rows (term_words * at list k) ≡ 0 → ⊥) {r : ℕ} (e : Earlier rows classes list k (at list k) r) where
-    pub class-new : r ≡ k → at list k ≡ class_of rows bindings list n (at list k)
-    class-new q =
+  module _ (p : at rows (term_words * at list k) ≡ 0 → ⊥) where
+    pub class-new : ((j : ℕ) → j < k → key_at rows classes (at list k) ≡ key_at rows classes (at list j) → ⊥)
+        → at list k ≡ class_of rows bindings list n (at list k)
+    class-new h =
         sym
         (new_by a.listed k a.within _ _ (node-arguments rows (at list k) p)
-        (λ j m h. e.none q j m (keys k (omega arith) ∙ (h ∙ sym (keys j (omega arith))))) (lt-or-le _ k))
+        (λ j m e. h j m (keys k (omega arith) ∙ (e ∙ sym (keys j (omega arith))))) (lt-or-le _ k))
 
-    pub old-place : (r ≡ k → ⊥) → (r < k) × (r < length list) × (at list r < length classes)
-    old-place q =
-        let low : r < k = omega (arith, e.within) in (
-          low,
-          omega (arith, list-fits a.listed, a.within),
-          omega (arith, term-lt a.listed r (omega (arith, a.within)), a.classes_fit),
-        )
+    module _ {r : ℕ} (e : (r < k) × (key_at rows classes (at list k) ≡ key_at rows classes (at list r))) where
+      pub old-place : (r < length list) × (at list r < length classes)
+      old-place = (
+        omega (arith, list-fits a.listed, a.within, e.0),
+        omega (arith, term-lt a.listed r (omega (arith, a.within, e.0)), a.classes_fit),
+      )
 
-    pub class-old : (r ≡ k → ⊥) → at classes (at list r) ≡ class_of rows bindings list n (at list k)
-    class-old q =
-        let low : r < k = omega (arith, e.within) in
-        let same : key_in rows bindings list n (at list k) ≡ key_in rows bindings list n (at list r) =
-        sym (keys k (omega arith)) ∙ (e.same low ∙ keys r (omega arith)) in
-        a.settled r low
-        ∙ sym
-        (class_same a.listed (at list k) (at list r)
-        (key_value a.listed (at list k) (at list r) t_lt (term-lt a.listed r (omega (arith, a.within))) _ _
-        (node-arguments rows (at list k) p) (node_of rows (at list r)) refl (rw (node-arguments rows (at list k) p) at same)))
+      pub class-old : at classes (at list r) ≡ class_of rows bindings list n (at list k)
+      class-old =
+          let same : key_in rows bindings list n (at list k) ≡ key_in rows bindings list n (at list r) =
+          sym (keys k (omega arith)) ∙ (e.1 ∙ keys r (omega (arith, e.0))) in
+          a.settled r e.0
+          ∙ sym
+          (class_same a.listed (at list k) (at list r)
+          (key_value a.listed (at list k) (at list r) t_lt (term-lt a.listed r (omega (arith, a.within, e.0))) _ _
+          (node-arguments rows (at list k) p) (node_of rows (at list r)) refl (rw (node-arguments rows (at list k) p) at same)))

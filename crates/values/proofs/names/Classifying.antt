@@ -1,13 +1,6 @@
 -- Classes along the list: after k terms each of those has its class, and the pairs are the halves of the hashes of their keys.
 -- Assumes nothing.
-use mathlib.Core.Path.{◌≡◌, refl, ap, sym, ◌∙◌}
-use mathlib.Core.List.{List, ◌++◌}
-use Prim.Native.Nat.{ℕ, suc, ◌+◌, ◌/◌, ◌%◌, ◌≤◌, ◌<◌}
-use native.Mathlib.Nat.{not-suc-le-zero}
-use native.Mathlib.Numerals.{add-one}
-use native.Mathlib.Omega.{arith}
-use borrow.Author.Count.{below_more}
-use lib.ListN.{length, drop, set, replicate, length-set}
+use Rattle.std.proofs.Common.{◌≡◌, refl, ap, sym, ◌∙◌, List, ◌++◌, ℕ, suc, ◌+◌, ◌/◌, ◌%◌, ◌≤◌, ◌<◌, not-suc-le-zero, add-one, arith, below_more, length, drop, set, replicate, length-set}
 use Rattle.layout.specs.limits.Rows.{at, book_of, bound_of}
 use Rattle.pairs.specs.Index.{buckets, Room, Indexed, Pushed}
 use Rattle.pairs.proofs.Laws.{Holds, place-le, place-least, kept_holds, kept_set, holds-set}

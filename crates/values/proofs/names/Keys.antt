@@ -1,40 +1,15 @@
 -- Keys of terms, from the words of a row: their hash, and whether two are the same. Assumes nothing.
-use mathlib.Core.Path.{◌≡◌, ap, sym, ◌∙◌}
-use mathlib.Core.List.{List, [], ◌∷◌, map}
-use mathlib.Core.Bool.{Bool, true, false}
-use mathlib.Core.Logic.{◌⊎◌, inl, inr}
-use Prim.Native.Nat.{ℕ, suc, ◌+◌, ◌*◌, ◌-◌, ◌/◌, ◌%◌, ◌≤◌, ◌<◌}
-use native.Mathlib.Nat.{mod-lt, div-lt_iff_lt-mul, mul-le-mul}
-use native.Mathlib.Numerals.{add-one}
-use native.Mathlib.Omega.{arith}
-use borrow.Author.Tests.{eq-eqb, ne_eqb}
-use lib.ListN.{length, drop, drop_of_length-le, length-map}
-use lib.Seq.{drop-cons}
-use lib.Dec.{T}
+use Rattle.std.proofs.Common.{◌≡◌, refl, ap, sym, ◌∙◌, List, [], ◌∷◌, map, true, false, ◌⊎◌, inl, inr, ℕ, suc, ◌+◌, ◌*◌, ◌-◌, ◌≤◌, ◌<◌, add-one, arith, eq-eqb, ne_eqb, length, drop, drop_of_length-le, drop-cons, T}
+use Rattle.std.proofs.Math.ListN.{length-map}
 use Rattle.model.specs.Lists.{is_empty, eq_numbers}
 use Rattle.model.specs.Term.{arguments}
 use Rattle.model.specs.Area.{term_words}
 use Rattle.theory.proofs.Lists.Laws.{true_T, not-T_false, eq_numbers-eq, eq_numbers_refl}
 use Rattle.theory.proofs.Table.Search.{eq-or-not}
-use Rattle.layout.specs.limits.Rows.{at}
+use Rattle.layout.specs.limits.Rows.{at, node_of}
 use Rattle.layout.proofs.limits.Rows.{node-var}
-use Rattle.values.proofs.roots.Reading.{arguments_at, node-arguments}
-use Rattle.values.specs.names.Keys.{key_of, key_at, mixed, hash_from, Row, Earlier}
-
--- the sum of a mix fits a word of eight bytes
-sum_fits : (product high c : ℕ) → product ≤ 4294967295 * 3728177666 → high < 4294967296 → c < 4294967296
-    → (product < 18446744073709551616) × (product + high < 18446744073709551616) × (product + high + c < 18446744073709551616)
-sum_fits product high c l k m = (omega arith, omega arith, omega arith)
-
-pub halves : (h : ℕ) → h < 18446744073709551616 → (h % 4294967296 < 4294967296) × (h / 4294967296 < 4294967296)
-halves h l = (mod-lt h (omega arith), (div-lt_iff_lt-mul {k = 4294967296} {x = h} {y = 4294967296} (omega arith)).1 l)
-
-pub mix_fits : (h c : ℕ) → h < 18446744073709551616 → c < 4294967296 → let product = h % 4294967296 * (2654435843 + c % 1073741824) in
-    (product < 18446744073709551616) × (product + h / 4294967296 < 18446744073709551616) × (product + h / 4294967296 + c < 18446744073709551616)
-mix_fits h c l k =
-    let factor : 2654435843 + c % 1073741824 ≤ 3728177666 = omega (arith, mod-lt c {m = 1073741824} (omega arith)) in
-    let low : h % 4294967296 ≤ 4294967295 = omega (arith, (halves h l).0) in
-    sum_fits (h % 4294967296 * (2654435843 + c % 1073741824)) (h / 4294967296) c (mul-le-mul low factor) (halves h l).1 k
+use Rattle.values.proofs.roots.Reading.{node-arguments}
+use Rattle.values.specs.names.Keys.{key_of, key_at, mixed, hash_from}
 
 mixed-none : (c : ℕ) → mixed 0 c ≡ c
 unfolding mixed
@@ -51,20 +26,21 @@ module _ (f : ℕ → ℕ) where
   unfolding hash_from
   hash_none args h j l = rw (drop_of_length-le args l)
 
-  module _ (args others : List ℕ) (j : ℕ) where
-    pub numbers-same : j < length args → j < length others → f (at args j) ≡ f (at others j)
-        → eq_numbers (map f (drop j args)) (map f (drop j others)) ≡ eq_numbers (map f (drop (j + 1) args)) (map f (drop (j + 1) others))
+  -- two lists by their first numbers
+  module _ {xs ys : List ℕ} {a b : ℕ} {us vs : List ℕ} (p : xs ≡ a ∷ us) (q : ys ≡ b ∷ vs) where
+    pub numbers-same : f a ≡ f b → eq_numbers (map f xs) (map f ys) ≡ eq_numbers (map f us) (map f vs)
     unfolding eq_numbers
-    numbers-same l k e = rw (add-one, drop-cons args j 0 l, drop-cons others j 0 k, eq-eqb (f (at args j)) (f (at others j)) e)
+    numbers-same e = rw (p, q, eq-eqb (f a) (f b) e)
 
-    pub numbers_differ : j < length args → j < length others → (f (at args j) ≡ f (at others j) → ⊥)
-        → eq_numbers (map f (drop j args)) (map f (drop j others)) ≡ false
+    pub numbers_differ : (f a ≡ f b → ⊥) → eq_numbers (map f xs) (map f ys) ≡ false
     unfolding eq_numbers
-    numbers_differ l k e = rw (drop-cons args j 0 l, drop-cons others j 0 k, ne_eqb (f (at args j)) (f (at others j)) e)
+    numbers_differ e = rw (p, q, ne_eqb (f a) (f b) e)
 
-    pub numbers-none : length args ≤ j → length others ≤ j → eq_numbers (map f (drop j args)) (map f (drop j others)) ≡ true
-    unfolding eq_numbers is_empty
-    numbers-none l k = rw (drop_of_length-le args l, drop_of_length-le others k)
+  pub numbers-none : (xs ys : List ℕ) → length xs ≡ 0 → length ys ≡ 0 → eq_numbers (map f xs) (map f ys) ≡ true
+  unfolding eq_numbers is_empty
+  numbers-none [] [] p q = refl
+  numbers-none [] (y ∷ ys) p q = absurd (omega arith)
+  numbers-none (x ∷ xs) ys p q = absurd (omega arith)
 
   -- lists of other lengths are other lists
   pub numbers_lengths : (args others : List ℕ) → (length args ≡ length others → ⊥) → eq_numbers (map f args) (map f others) ≡ false
@@ -73,15 +49,11 @@ module _ (f : ℕ → ℕ) where
       (λ e. h (sym (length-map args f) ∙ ap length (eq_numbers-eq (map f args) (map f others) e) ∙ length-map others f))
 
 -- the test of two keys says whether they are the same
-pub test_same : (xs ys : List ℕ) (r : Bool) → r ≡ eq_numbers xs ys → r ≡ true → xs ≡ ys
-test_same xs ys r e p = eq_numbers-eq xs ys (true_T (eq_numbers xs ys) (sym e ∙ p))
+pub test_same : (xs ys : List ℕ) → true ≡ eq_numbers xs ys → xs ≡ ys
+test_same xs ys e = eq_numbers-eq xs ys (true_T (eq_numbers xs ys) (sym e))
 
-pub test_other : (xs ys : List ℕ) (r : Bool) → r ≡ eq_numbers xs ys → r ≡ false → xs ≡ ys → ⊥
-test_other xs ys r e p q =
-    let z : T false = rw (sym e ∙ p) at (same q) in absurd z
-  where
-    same : xs ≡ ys → T (eq_numbers xs ys)
-    same h = rw (sym h) (eq_numbers_refl xs)
+pub test_other : (xs ys : List ℕ) → false ≡ eq_numbers xs ys → xs ≡ ys → ⊥
+test_other xs ys e q = let same : T (eq_numbers xs ys) = rw (sym q) (eq_numbers_refl xs) in absurd (rw (sym e) at same)
 
 module _ (rows classes : List ℕ) where
   pub key_var : (t : ℕ) → at rows (term_words * t) ≡ 0 → key_at rows classes t ≡ []
@@ -89,11 +61,11 @@ module _ (rows classes : List ℕ) where
   key_var t p = rw (node-var rows t p)
 
   pub key_app : (t : ℕ) → (at rows (term_words * t) ≡ 0 → ⊥)
-      → key_at rows classes t ≡ at rows (term_words * t) ∷ map (at classes) (arguments_at rows t)
-  unfolding key_of
+      → key_at rows classes t ≡ at rows (term_words * t) ∷ map (at classes) (arguments (node_of rows t))
+  unfolding key_of arguments
   key_app t p =
       let e : suc (at rows (term_words * t) - 1) ≡ at rows (term_words * t) = omega arith in
-      rw (node-arguments rows t p) (ap (λ (w : ℕ). w ∷ map (at classes) (arguments_at rows t)) e)
+      rw (node-arguments rows t p) (ap (λ (w : ℕ). w ∷ map (at classes) (arguments (node_of rows t))) e)
 
   -- the hash of a key
   pub hash_var : (t : ℕ) → at rows (term_words * t) ≡ 0 → 0 ≡ hash_from 0 (key_at rows classes t)
@@ -101,14 +73,14 @@ module _ (rows classes : List ℕ) where
   hash_var t p = rw (key_var t p)
 
   pub hash_app : (t : ℕ) → (at rows (term_words * t) ≡ 0 → ⊥)
-      → hash_from (at rows (term_words * t)) (map (at classes) (arguments_at rows t)) ≡ hash_from 0 (key_at rows classes t)
+      → hash_from (at rows (term_words * t)) (map (at classes) (arguments (node_of rows t))) ≡ hash_from 0 (key_at rows classes t)
   unfolding hash_from
-  hash_app t p = rw (key_app t p) (ap (λ (h : ℕ). hash_from h (map (at classes) (arguments_at rows t))) (sym (mixed-none (at rows (term_words * t)))))
+  hash_app t p = rw (key_app t p) (ap (λ (h : ℕ). hash_from h (map (at classes) (arguments (node_of rows t)))) (sym (mixed-none (at rows (term_words * t)))))
 
   -- two keys with one symbol, and with two
   module _ (t u : ℕ) (p : at rows (term_words * t) ≡ 0 → ⊥) where
     pub keys_alike : at rows (term_words * t) ≡ at rows (term_words * u)
-        → eq_numbers (map (at classes) (arguments_at rows t)) (map (at classes) (arguments_at rows u)) ≡ eq_numbers (key_at rows classes t) (key_at rows classes u)
+        → eq_numbers (map (at classes) (arguments (node_of rows t))) (map (at classes) (arguments (node_of rows u))) ≡ eq_numbers (key_at rows classes t) (key_at rows classes u)
     unfolding eq_numbers
     keys_alike e =
         rw (key_app t p, key_app u (λ z. p (e ∙ z)), eq-eqb (at rows (term_words * t)) (at rows (term_words * u)) e)
@@ -120,18 +92,3 @@ module _ (rows classes : List ℕ) where
         go : (at rows (term_words * u) ≡ 0) ⊎ (at rows (term_words * u) ≡ 0 → ⊥) → false ≡ eq_numbers (key_at rows classes t) (key_at rows classes u)
         go (inl z) = rw (key_app t p, key_var u z)
         go (inr q) = rw (key_app t p, key_app u q, ne_eqb (at rows (term_words * t)) (at rows (term_words * u)) e)
-
--- the arguments of a row are below m
-pub row-arguments : {rows : List ℕ} {m t : ℕ} → Row rows m t → (at rows (term_words * t) ≡ 0 → ⊥)
-    → (j : ℕ) → j < length (arguments_at rows t) → at (arguments_at rows t) j < m
-unfolding arguments
-row-arguments {rows} {m} {t} r p = rw (node-arguments rows t p) at r.arguments-below
-
--- a place of a key, and none
-pub found_at : {rows classes list : List ℕ} {k t r : ℕ} → r < k → key_at rows classes t ≡ key_at rows classes (at list r)
-    → Earlier rows classes list k t r
-found_at l e = record { within = omega arith; same = λ _. e; none = λ q. absurd (omega arith) }
-
-pub found_none : {rows classes list : List ℕ} {k t : ℕ} → ((j : ℕ) → j < k → key_at rows classes t ≡ key_at rows classes (at list j) → ⊥)
-    → Earlier rows classes list k t k
-found_none h = record { within = omega arith; same = λ l. absurd (omega arith); none = λ _. h }

@@ -1,17 +1,9 @@
 -- The lowest term of each class. Assumes nothing.
-use mathlib.Core.Path.{◌≡◌, refl, ap, ap₂, sym, ◌∙◌}
-use mathlib.Core.List.{List, ◌∷◌, ◌++◌, map}
-use mathlib.Core.Bool.{Bool}
-use mathlib.Core.Logic.{◌⊎◌, inl, inr}
-use Prim.Native.Nat.{ℕ, zero, suc, ◌+◌, ◌≤◌, ◌<◌}
-use native.Mathlib.Nat.{not-suc-le-zero, zero-add}
-use native.Mathlib.Omega.{arith}
-use borrow.Author.Count.{below_more}
-use lib.ListN.{length, get_or, drop, set, length-set}
-use lib.Seq.{get_or-set_same, get_or-set_other, drop-set-lt}
-use lib.Dec.{eqb, eqb→eq, eqb_refl}
+use Rattle.std.proofs.Common.{◌≡◌, refl, ap, sym, ◌∙◌, List, ◌++◌, map, Bool, ◌⊎◌, inl, inr, ℕ, ◌+◌, ◌≤◌, ◌<◌, zero-add, arith, below_more, length, get_or, drop, set, length-set, get_or-set_same, get_or-set_other, drop-set-lt, eqb, eqb→eq}
+use Rattle.std.proofs.Math.Dec.{eqb_refl}
 use Rattle.model.specs.Lists.{from}
 use Rattle.model.specs.Term.{Book, Bindings, eq_tree, val, name}
+use Rattle.theory.proofs.Lists.From.{map-from-same}
 use Rattle.theory.proofs.Lists.Laws.{same_test, first-least, first_alike, length_from, get_or-from}
 use Rattle.theory.proofs.Table.Search.{lt-or-le, eq-or-not}
 use Rattle.theory.proofs.Values.Equations.{eq_tree-eq, eq_tree_refl}
@@ -21,12 +13,6 @@ use Rattle.layout.proofs.limits.Rows.{length-book_of}
 use Rattle.values.proofs.roots.Settled.{words-map}
 use Rattle.pairs.proofs.Rooms.{room_kept}
 use Rattle.values.specs.names.Classes.{Scratch, SameClasses, lowest_same, Seen, lower, own, Nameable}
-
--- functions that agree below i + n give the same for n numbers from i on
-map-from-same : (f g : ℕ → ℕ) (i n : ℕ) → ((t : ℕ) → t < i + n → f t ≡ g t) → map f (from i n) ≡ map g (from i n)
-unfolding from
-map-from-same f g i zero h = refl
-map-from-same f g i (suc n) h = ap₂ ◌∷◌ (h i (omega arith)) (map-from-same f g (suc i) n (λ t l. h t (omega arith)))
 
 module _ (classes : List ℕ) (n t : ℕ) (t_term : t < n) where
   -- whether term u has the class of t
@@ -49,10 +35,10 @@ pub lowest-names : (b : Book) (β : Bindings) (classes : List ℕ) (n : ℕ) →
     → map (lowest_same classes n) (from 0 n) ≡ map (name b β) (from 0 n)
 unfolding lowest_same name
 lowest-names b β classes n size s =
-    map-from-same (lowest_same classes n) (name b β) 0 n
-    (λ t l.
-    first_alike (λ u. eqb (at classes u) (at classes t)) (λ u. eq_tree (val b β u) (val b β t)) (from 0 n) (from 0 (length b)) 0 0 (rw size)
-    (λ u k. alike t (omega arith) u (rw length_from at k)))
+    map-from-same (lowest_same classes n) (name b β) 0 0 n
+    (λ t l. rw zero-add
+    (first_alike (λ u. eqb (at classes u) (at classes t)) (λ u. eq_tree (val b β u) (val b β t)) (from 0 n) (from 0 (length b)) 0 0 (rw size)
+    (λ u k. alike t l u (rw length_from at k))))
   where
     alike : (t : ℕ) → t < n → (u : ℕ) → u < n
         → eqb (at classes (get_or (from 0 n) u 0)) (at classes t) ≡ eq_tree (val b β (get_or (from 0 (length b)) u 0)) (val b β t)
@@ -101,18 +87,6 @@ unfolding lowest_same
 lowest-same classes n t u e = rw e
 
 module _ {classes : List ℕ} {n : ℕ} {firsts₀ names₀ : List ℕ} where
-  pub numbering_none : Nameable classes names₀ firsts₀ n → Numbering classes n firsts₀ names₀ firsts₀ names₀ 0
-  numbering_none counted =
-      record {
-        counted = counted;
-        within = omega arith;
-        first_size = refl;
-        name_size = refl;
-        behind = refl;
-        placed = λ i l. absurd (not-suc-le-zero l);
-        named = λ i l. absurd (not-suc-le-zero l);
-      }
-
   module _ {firsts names : List ℕ} {t : ℕ} (h : Numbering classes n firsts₀ names₀ firsts names t) where
     -- at the end every term has the lowest of its class
     pub numbered : n ≤ t → names ≡ map (lowest_same classes n) (from 0 n) ++ drop n names₀

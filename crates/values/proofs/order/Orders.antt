@@ -1,15 +1,7 @@
 -- The walks of the terms in rising number: what holds between them, that a refusal means a value that contains itself, and
 -- that with all terms walked there is none and the list is in order. Assumes nothing.
-use mathlib.Core.Path.{◌≡◌, sym, ◌∙◌}
-use mathlib.Core.List.{List, [], ◌∷◌, ◌++◌}
-use mathlib.Core.Bool.{true, false}
-use mathlib.Core.Logic.{⊎_elim}
-use Prim.Native.Nat.{ℕ, zero, suc, ◌+◌, ◌≤◌, ◌<◌}
-use native.Mathlib.Nat.{not-suc-le-zero, eq-or-lt_of_le}
-use native.Mathlib.Omega.{arith}
-use lib.ListN.{length, get_or, take, drop, replicate, length-append, length-drop, length-replicate, get_or-replicate, get_or-append}
-use lib.Seq.{length-take-le, get_or-take}
-use lib.Dec.{T}
+use Rattle.std.proofs.Common.{◌≡◌, sym, ◌∙◌, List, [], ◌∷◌, ◌++◌, true, false, ⊎_elim, ℕ, zero, suc, ◌+◌, ◌≤◌, ◌<◌, not-suc-le-zero, eq-or-lt_of_le, arith, length, get_or, take, drop, replicate, length-append, length-drop, length-take-le, get_or-take, T}
+use Rattle.std.proofs.Math.ListN.{length-replicate, get_or-replicate, get_or-append}
 use Rattle.model.specs.Lists.{all}
 use Rattle.model.specs.Term.{Book, Bindings, ends, acyclic}
 use Rattle.theory.proofs.Lists.Laws.{T_true, not-T_false, and_both, all_intro}
@@ -78,9 +70,9 @@ module _ {b : Book} {β : Bindings} {n : ℕ} (good : Good b β n) where
         under u k = omega arith
 
     -- a refusal
-    pub upto_refused : {xs : List ℕ} → t < n → Stuck b β marks (t ∷ []) → (false ≡ acyclic b β) × (false ≡ true → Ordered b β xs)
+    pub upto_refused : t < n → Stuck b β marks (t ∷ []) → false ≡ acyclic b β
     unfolding all
-    upto_refused l h = (sym (not-T_false (acyclic b β) stuck), λ e. let z : ◌≡◌ {A = ℕ} 0 1 = cc in absurd (omega arith))
+    upto_refused l h = sym (not-T_false (acyclic b β) stuck)
       where
         stuck : T (acyclic b β) → ⊥
         stuck e =

@@ -1,16 +1,8 @@
 -- The parts of a term: what they are in rows of words, that they are terms, and that a term ends one step behind them.
 -- Assumes nothing.
-use mathlib.Core.Path.{◌≡◌, refl, sym, ◌∙◌}
-use mathlib.Core.List.{List, [], ◌∷◌}
-use mathlib.Core.Bool.{Bool, true, false}
-use mathlib.Core.Option.{Option, none, some}
-use Prim.Native.Nat.{ℕ, zero, suc, ◌+◌, ◌*◌, ◌-◌, ◌≤◌, ◌<◌}
-use native.Mathlib.Nat.{le_of_suc-le-suc, not-suc-le-zero}
-use native.Mathlib.Decide.{ℕ_discrete}
-use native.Mathlib.Omega.{arith}
-use lib.ListN.{length, get_or}
-use lib.Dec.{T}
-use Rattle.model.specs.Limits.{max_arity}
+use Rattle.std.proofs.Common.{◌≡◌, refl, ◌∙◌, List, [], ◌∷◌, Bool, true, false, ℕ, zero, suc, ◌*◌, ◌-◌, ◌≤◌, ◌<◌, le_of_suc-le-suc, not-suc-le-zero, arith, length, get_or, T}
+use Rattle.std.proofs.Math.Option.{Option, none, some}
+use Rattle.std.proofs.Math.Decide.{ℕ_discrete}
 use Rattle.model.specs.Lists.{all}
 use Rattle.model.specs.Term.{Node, var, app, arguments, Book, Bindings, ends_step, ends}
 use Rattle.model.specs.Area.{term_words}
@@ -18,9 +10,10 @@ use Rattle.theory.proofs.Lists.Laws.{and_left, and_both, true_T}
 use Rattle.theory.proofs.Soundness.Facts.{Formed}
 use Rattle.theory.proofs.Values.Ends.{argument-lt}
 use Rattle.layout.specs.limits.Rows.{at, node_of, book_of, binding_of, bound_of, GoodTerms}
-use Rattle.layout.proofs.limits.Rows.{length-book_of, get_or-book_of, get_or-bound_of, node-var, node-app, binding_none, binding_some, length-arguments, get_or-arguments, good_formed}
+use Rattle.layout.proofs.limits.Rows.{length-book_of, get_or-book_of, get_or-bound_of, node-var, node-app, binding_none, binding_some, good_formed}
 use Rattle.values.specs.order.Order.{parts_of, parts}
 use Rattle.values.specs.order.Marking.{parts_in}
+use Rattle.values.proofs.roots.Reading.{parts-lt}
 
 -- the element of a list that has one
 only : (a i : ℕ) → i < length (a ∷ []) → a ≡ get_or (a ∷ []) i 0
@@ -36,42 +29,31 @@ module _ {rows bindings : List ℕ} {n : ℕ} (good : GoodTerms rows bindings n)
   in_rows = rw (get_or-book_of rows n t l, get_or-bound_of bindings n t l)
 
   -- an application's are its arguments, a bound variable's is what it is bound to, a free one has none
-  parts-app : (at rows (term_words * t) ≡ 0 → ⊥) → parts_in rows bindings n t ≡ arguments (node_of rows t)
+  pub parts-app : (at rows (term_words * t) ≡ 0 → ⊥) → parts_in rows bindings n t ≡ arguments (node_of rows t)
   unfolding parts_of arguments
   parts-app h = in_rows ∙ rw (node-app rows t h)
 
-  pub parts_free : at rows (term_words * t) ≡ 0 → at bindings t ≡ 0 → parts_in rows bindings n t ≡ []
+  pub parts_free : at rows (term_words * t) ≡ 0 → binding_of bindings t ≡ none → parts_in rows bindings n t ≡ []
   unfolding parts_of
-  parts_free e f = in_rows ∙ rw (node-var rows t e, binding_none bindings t f)
+  parts_free e f = in_rows ∙ rw (node-var rows t e, f)
 
-  pub parts-bound : at rows (term_words * t) ≡ 0 → (at bindings t ≡ 0 → ⊥)
-      → parts_in rows bindings n t ≡ (at bindings t - 1) ∷ []
+  pub parts-bound : at rows (term_words * t) ≡ 0 → (u : ℕ) → binding_of bindings t ≡ some u → parts_in rows bindings n t ≡ u ∷ []
   unfolding parts_of
-  parts-bound e f = in_rows ∙ rw (node-var rows t e, binding_some bindings t f)
+  parts-bound e u f = in_rows ∙ rw (node-var rows t e, f)
 
-  -- their count and the i-th
-  module _ (h : at rows (term_words * t) ≡ 0 → ⊥) where
-    pub count-app : at rows (term_words * t + 1) ≡ length (parts_in rows bindings n t)
-    count-app = rw (parts-app h) (sym (length-arguments good t l h))
-
-    pub argument-few : (i : ℕ) → i < length (parts_in rows bindings n t) → i < max_arity
-    argument-few i k = omega (arith, count-app, good.few-arguments t l)
-
-    pub part_app : (i : ℕ) → i < length (parts_in rows bindings n t)
-        → at rows (term_words * t + 2 + i) ≡ get_or (parts_in rows bindings n t) i 0
-    part_app i k = rw (parts-app h) (sym (get_or-arguments good t l h i (omega (arith, count-app))))
-
+  -- a variable that has a part is bound to it
   module _ (e : at rows (term_words * t) ≡ 0) (i : ℕ) (k : i < length (parts_in rows bindings n t)) where
     pub bound-word : 1 ≤ at bindings t
     bound-word = go (ℕ_discrete (at bindings t) 0)
       where
         go : Dec (at bindings t ≡ 0) → 1 ≤ at bindings t
-        go (yes f) = absurd (not-suc-le-zero (rw (parts_free e f) at k))
+        go (yes f) = absurd (not-suc-le-zero (rw (parts_free e (binding_none bindings t f)) at k))
         go (no f) = omega arith
 
     pub part_bound : at bindings t - 1 ≡ get_or (parts_in rows bindings n t) i 0
     part_bound =
-        let p : parts_in rows bindings n t ≡ (at bindings t - 1) ∷ [] = parts-bound e (λ f. omega (arith, bound-word)) in
+        let p : parts_in rows bindings n t ≡ (at bindings t - 1) ∷ [] =
+        parts-bound e (at bindings t - 1) (binding_some bindings t (λ f. omega (arith, bound-word))) in
         rw p (only (at bindings t - 1) i (rw p at k))
 
 -- ---- parts of a book
@@ -96,21 +78,6 @@ unfolding ends_step parts_of all
 parts-step p var none e = tt
 parts-step p var (some u) e = and_left (p u) true e
 parts-step p (app s args) o e = e
-
--- what holds of the arguments and of what is bound holds of the parts, and they are few
-parts_below : (n : ℕ) (x : Node) (o : Option ℕ) → ((i : ℕ) → i < length (arguments x) → get_or (arguments x) i 0 < n)
-    → ((u : ℕ) → o ≡ some u → u < n) → (i : ℕ) → i < length (parts_of x o) → get_or (parts_of x o) i 0 < n
-unfolding parts_of arguments
-parts_below n var none h g i l = absurd (not-suc-le-zero l)
-parts_below n var (some u) h g zero l = g u refl
-parts_below n var (some u) h g (suc i) l = absurd (not-suc-le-zero (le_of_suc-le-suc l))
-parts_below n (app s args) o h g i l = h i l
-
-parts-few : (x : Node) (o : Option ℕ) → length (arguments x) ≤ max_arity → length (parts_of x o) ≤ max_arity
-unfolding parts_of arguments
-parts-few var none h = omega arith
-parts-few var (some u) h = omega arith
-parts-few (app s args) o h = h
 
 module _ (b : Book) (β : Bindings) where
   pub ends-parts : (k t : ℕ) → T (ends b β (suc k) t) → T (all (ends b β k) (parts b β t))
@@ -143,8 +110,4 @@ module _ (b : Book) (β : Bindings) where
     pub part_lt : (t : ℕ) → t < length b → (i : ℕ) → i < length (parts b β t) → get_or (parts b β t) i 0 < length b
     unfolding parts
     part_lt t l =
-        parts_below (length b) (get_or b t var) (get_or β t none) (argument-lt b β formed t l) (λ u q. (formed.bound-var t u q).1)
-
-    pub few-parts : (t : ℕ) → t < length b → length (parts b β t) ≤ max_arity
-    unfolding parts
-    few-parts t l = parts-few (get_or b t var) (get_or β t none) (formed.small_arity t l)
+        parts-lt (length b) (get_or b t var) (get_or β t none) (argument-lt b β formed t l) (λ u q. (formed.bound-var t u q).1)

@@ -1,16 +1,8 @@
 -- How many numbers pass, and how many marks are m: bounds, and what a mark that is set changes. Assumes nothing.
-use mathlib.Core.Path.{◌≡◌, refl, ap, sym, ◌∙◌}
-use mathlib.Core.List.{List}
-use mathlib.Core.Bool.{Bool, true, false, cond}
-use mathlib.Core.Logic.{⊎_elim}
-use Prim.Native.Nat.{ℕ, zero, suc, ◌≤◌, ◌<◌, zero-le, suc-le-suc}
-use native.Mathlib.Nat.{le_of_suc-le-suc, not-suc-le-zero, eq-or-lt_of_le}
-use native.Mathlib.Decide.{ℕ_discrete}
-use native.Mathlib.Omega.{arith}
-use lib.ListN.{length, get_or, set, length-set}
-use lib.Seq.{get_or-set_same, get_or-set_other, set-set, set-get_or}
-use lib.Dec.{T, eqb, eqb→eq, eqb_refl}
-use borrow.Author.Tests.{eq-eqb, ne_eqb}
+use Rattle.std.proofs.Common.{◌≡◌, refl, ap, sym, ◌∙◌, List, Bool, true, false, cond, ⊎_elim, ℕ, zero, suc, ◌≤◌, ◌<◌, zero-le, suc-le-suc, le_of_suc-le-suc, not-suc-le-zero, eq-or-lt_of_le, arith, length, get_or, set, length-set, get_or-set_same, get_or-set_other, set-set, T, eqb, eqb→eq, eq-eqb, ne_eqb}
+use Rattle.std.proofs.Math.Decide.{ℕ_discrete}
+use Rattle.std.proofs.Math.Seq.{set-get_or}
+use Rattle.std.proofs.Math.Dec.{eqb_refl}
 use Rattle.theory.proofs.Lists.Laws.{T_true}
 use Rattle.values.specs.order.Marking.{tally, marked}
 

@@ -1,25 +1,19 @@
 -- Whether a variable occurs in a value: one step from the flags of the terms below. Assumes nothing.
-use mathlib.Core.Path.{◌≡◌, refl, ap, ap₂, sym, ◌∙◌}
-use mathlib.Core.List.{List, [], ◌∷◌}
-use mathlib.Core.Bool.{Bool, true, false, not, ◌||◌}
-use mathlib.Core.Option.{Option, none, some}
-use Prim.Native.Nat.{ℕ, suc, ◌+◌, ◌*◌, ◌-◌, ◌≤◌, ◌<◌, zero-le, suc-le-suc}
-use native.Mathlib.Numerals.{add-one}
-use native.Mathlib.Omega.{arith}
-use lib.ListN.{length, get_or, drop, drop_of_length-le}
-use lib.Seq.{drop-cons}
-use lib.Dec.{eqb}
-use borrow.Author.Tests.{eq-eqb, ne_eqb}
-use Rattle.model.specs.Term.{Node, var, app, Book, Bindings, Tree, trees, val, occurs, occurs_any}
+use Rattle.std.proofs.Common.{◌≡◌, refl, ap, ap₂, sym, ◌∙◌, List, [], ◌∷◌, Bool, true, false, not, ◌||◌, ℕ, suc, ◌*◌, ◌<◌, zero-le, suc-le-suc, arith, length, get_or, eqb, eq-eqb, ne_eqb}
+use Rattle.std.proofs.Math.Option.{Option, none, some}
+use Rattle.std.specs.Int.{from_bool}
+use Rattle.std.specs.List.{list_any}
+use Rattle.std.proofs.lemmas.List.Recursion.{same_from_clauses}
+use Rattle.model.specs.Term.{Node, var, app, arguments, Book, Bindings, Tree, trees, val, occurs, occurs_any}
 use Rattle.model.specs.Area.{term_words}
 use Rattle.theory.proofs.Soundness.Facts.{Formed, Acyclic}
 use Rattle.theory.proofs.Soundness.Terms.{acyclic_facts}
 use Rattle.theory.proofs.Values.Equations.{val-free, val-bound, val-app}
 use Rattle.layout.specs.limits.Rows.{at, node_of, book_of, binding_of, bound_of}
-use Rattle.layout.proofs.limits.Rows.{length-book_of, get_or-book_of, get_or-bound_of, node-var, binding_none, binding_some, good_formed}
+use Rattle.layout.proofs.limits.Rows.{length-book_of, get_or-book_of, get_or-bound_of, node-var, good_formed}
 use Rattle.values.specs.order.Order.{parts_of}
 use Rattle.values.specs.roots.Flags.{flag, flagged, any, occurs_step}
-use Rattle.values.proofs.roots.Reading.{arguments_at, node-arguments}
+use Rattle.values.proofs.roots.Reading.{node-arguments}
 use Rattle.values.proofs.roots.Settled.{settled-parts, Filled, next-term}
 
 -- a flag's word says whether it stands
@@ -28,13 +22,16 @@ unfolding flag
 flag-stands true w e = rw (ne_eqb w 0 (omega arith))
 flag-stands false w e = rw (eq-eqb w 0 e)
 
-pub flag-set : (words : List ℕ) (u : ℕ) → (at words u ≡ 0 → ⊥) → flagged words u ≡ true
-unfolding flagged
-flag-set words u h = rw (ne_eqb (at words u) 0 h)
+-- the library's number of a flag is that word
+pub flag-word : (c : Bool) → from_bool c ≡ flag c
+unfolding flag
+flag-word true = refl
+flag-word false = refl
 
-pub flag_unset : (words : List ℕ) (u : ℕ) → at words u ≡ 0 → flagged words u ≡ false
-unfolding flagged
-flag_unset words u e = rw (eq-eqb (at words u) 0 e)
+-- `any` is the library's
+pub any-std : (p : ℕ → Bool) (xs : List ℕ) → list_any p xs ≡ any p xs
+unfolding any
+any-std p = same_from_clauses (list_any p) (any p) (λ x r. p x || r) refl (λ _ _. refl) (λ _ _. refl)
 
 -- tests that agree on the elements of a list agree on whether some element passes
 any_agree : (p q : ℕ → Bool) (xs : List ℕ) → ((j : ℕ) → j < length xs → p (get_or xs j 0) ≡ q (get_or xs j 0)) → any p xs ≡ any q xs
@@ -87,31 +84,18 @@ module _ (v : ℕ) {rows bindings list : List ℕ} {n : ℕ} {words₀ words : L
       (occurs_of b β (good_formed h.listed.good) (acyclic_facts b β h.listed.no_cycle) v t (rw length-book_of (next-term h l))
       (node_of rows t) (binding_of bindings t) (get_or-book_of rows n t (next-term h l)) (get_or-bound_of bindings n t (next-term h l)))
 
--- looking through the arguments: none before j passes
-module _ (p : ℕ → Bool) (xs : List ℕ) (j : ℕ) (h : any p xs ≡ any p (drop j xs)) where
-  pub any-more : j < length xs → p (at xs j) ≡ false → any p xs ≡ any p (drop (j + 1) xs)
-  unfolding any
-  any-more l e = h ∙ rw (add-one, drop-cons xs j 0 l, e)
-
-  pub any_found : j < length xs → p (at xs j) ≡ true → true ≡ any p xs
-  unfolding any
-  any_found l e = sym (h ∙ rw (drop-cons xs j 0 l, e))
-
-  pub any_none : length xs ≤ j → false ≡ any p xs
-  unfolding any
-  any_none l = sym (h ∙ rw (drop_of_length-le xs l))
-
 -- the step by the words of a term
 module _ (rows bindings : List ℕ) (below : ℕ → Bool) (v t : ℕ) where
-  pub occurs-app : (at rows (term_words * t) ≡ 0 → ⊥) → any below (arguments_at rows t) ≡ occurs_step below v t (node_of rows t) (binding_of bindings t)
-  unfolding occurs_step
-  occurs-app h = rw (node-arguments rows t h)
+  pub occurs-app : (at rows (term_words * t) ≡ 0 → ⊥) → (args : List ℕ) → args ≡ arguments (node_of rows t)
+      → any below args ≡ occurs_step below v t (node_of rows t) (binding_of bindings t)
+  unfolding occurs_step arguments
+  occurs-app h args e = rw (e, node-arguments rows t h)
 
-  pub occurs-free : at rows (term_words * t) ≡ 0 → at bindings t ≡ 0 → eqb v t ≡ occurs_step below v t (node_of rows t) (binding_of bindings t)
+  pub occurs-free : at rows (term_words * t) ≡ 0 → binding_of bindings t ≡ none → eqb v t ≡ occurs_step below v t (node_of rows t) (binding_of bindings t)
   unfolding occurs_step
-  occurs-free p q = rw (node-var rows t p, binding_none bindings t q)
+  occurs-free p q = rw (node-var rows t p, q)
 
-  pub occurs-bound : at rows (term_words * t) ≡ 0 → (at bindings t ≡ 0 → ⊥)
-      → below (at bindings t - 1) ≡ occurs_step below v t (node_of rows t) (binding_of bindings t)
+  pub occurs-bound : at rows (term_words * t) ≡ 0 → (u : ℕ) → binding_of bindings t ≡ some u
+      → below u ≡ occurs_step below v t (node_of rows t) (binding_of bindings t)
   unfolding occurs_step
-  occurs-bound p q = rw (node-var rows t p, binding_some bindings t q)
+  occurs-bound p u q = rw (node-var rows t p, q)

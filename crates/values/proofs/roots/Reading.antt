@@ -1,21 +1,16 @@
 -- Reading one term: what a good book gives, and the words that are read. Assumes nothing.
-use mathlib.Core.Path.{◌≡◌, refl, ◌∙◌}
-use mathlib.Core.List.{List}
-use mathlib.Core.Option.{Option, none, some}
-use Prim.Native.Nat.{ℕ, zero, suc, ◌+◌, ◌*◌, ◌-◌, ◌≤◌, ◌<◌, zero-le, suc-le-suc}
-use native.Mathlib.Nat.{not-suc-le-zero}
-use native.Mathlib.Omega.{arith}
-use lib.ListN.{length, get_or, take, drop}
+use Rattle.std.proofs.Common.{◌≡◌, refl, ◌∙◌, List, ℕ, zero, suc, ◌*◌, ◌-◌, ◌≤◌, ◌<◌, zero-le, suc-le-suc, not-suc-le-zero, arith, length, get_or}
+use Rattle.std.proofs.Math.Option.{Option, none, some}
 use Rattle.model.specs.Term.{Node, var, app, arguments}
 use Rattle.model.specs.Area.{term_words}
 use Rattle.theory.proofs.Soundness.Facts.{Formed}
 use Rattle.layout.specs.limits.Rows.{at, node_of, book_of, binding_of, bound_of, GoodTerms}
-use Rattle.layout.proofs.limits.Rows.{length-book_of, get_or-book_of, get_or-bound_of, node-var, node-app, binding_some, good_formed}
+use Rattle.layout.proofs.limits.Rows.{length-book_of, get_or-book_of, get_or-bound_of, node-var, node-app, good_formed}
 use Rattle.values.specs.order.Order.{parts_of}
 use Rattle.values.specs.roots.Reading.{Readable}
 
 -- what a value is made of is below m, where the arguments and the bound term are
-parts-lt : (m : ℕ) (x : Node) (o : Option ℕ) → ((i : ℕ) → i < length (arguments x) → get_or (arguments x) i 0 < m)
+pub parts-lt : (m : ℕ) (x : Node) (o : Option ℕ) → ((i : ℕ) → i < length (arguments x) → get_or (arguments x) i 0 < m)
     → ((u : ℕ) → o ≡ some u → u < m) → (j : ℕ) → j < length (parts_of x o) → get_or (parts_of x o) j 0 < m
 unfolding parts_of arguments
 parts-lt m var none below bound j l = absurd (not-suc-le-zero l)
@@ -38,24 +33,19 @@ readable rows bindings n t m good l h =
     formed : Formed (book_of rows n) (bound_of bindings n)
     formed = good_formed good
 
--- the words behind the count of an application, as many as it says: a part of the rows, from a start to an end
-abbrev pub arguments_at : List ℕ → ℕ → List ℕ
-arguments_at rows t =
-    take (term_words * t + 2 + at rows (term_words * t + 1) - (term_words * t + 2)) (drop (term_words * t + 2) rows)
-
--- are its arguments
+-- an application, by its arguments
 pub node-arguments : (rows : List ℕ) (t : ℕ) → (at rows (term_words * t) ≡ 0 → ⊥)
-    → node_of rows t ≡ app (at rows (term_words * t) - 1) (arguments_at rows t)
-node-arguments rows t h =
-    let e : term_words * t + 2 + at rows (term_words * t + 1) - (term_words * t + 2) ≡ at rows (term_words * t + 1) = omega arith in
-    rw e (node-app rows t h)
+    → node_of rows t ≡ app (at rows (term_words * t) - 1) (arguments (node_of rows t))
+unfolding arguments
+node-arguments rows t h = rw (node-app rows t h)
 
 module _ (rows bindings : List ℕ) (t m : ℕ) (r : Readable rows bindings t m) where
   -- the term that a variable is bound to, and the arguments of an application, are below m
-  pub bound-below : at rows (term_words * t) ≡ 0 → (at bindings t ≡ 0 → ⊥) → at bindings t - 1 < m
+  pub bound-below : at rows (term_words * t) ≡ 0 → (u : ℕ) → binding_of bindings t ≡ some u → u < m
   unfolding parts_of
-  bound-below p q = (rw (node-var rows t p, binding_some bindings t q) at r.parts_below) 0 (suc-le-suc zero-le)
+  bound-below p u q = (rw (node-var rows t p, q) at r.parts_below) 0 (suc-le-suc zero-le)
 
-  pub arguments-below : (at rows (term_words * t) ≡ 0 → ⊥) → (j : ℕ) → j < length (arguments_at rows t) → at (arguments_at rows t) j < m
+  pub arguments-below : (at rows (term_words * t) ≡ 0 → ⊥) → (args : List ℕ) → args ≡ arguments (node_of rows t)
+      → (j : ℕ) → j < length args → at args j < m
   unfolding parts_of
-  arguments-below h = rw (node-arguments rows t h) at r.parts_below
+  arguments-below h args e = rw e (rw (node-arguments rows t h) at r.parts_below)

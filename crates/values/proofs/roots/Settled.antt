@@ -1,13 +1,7 @@
 -- Along a list in which all that a value is made of comes first: a word for each term before a place of the list, of which
 -- something holds. Assumes nothing.
-use mathlib.Core.Path.{◌≡◌, refl, ap, sym, ◌∙◌}
-use mathlib.Core.List.{List, ◌++◌, map}
-use Prim.Native.Nat.{ℕ, ◌+◌, ◌≤◌, ◌<◌, zero-le}
-use native.Mathlib.Nat.{zero-add, not-suc-le-zero}
-use native.Mathlib.Decide.{ℕ_discrete}
-use native.Mathlib.Omega.{arith}
-use lib.ListN.{length, get_or, take, drop, set, take-append-drop, length-take, length-set}
-use lib.Seq.{get_or-set_same, get_or-set_other, get_or-take, length-take-le, drop-set-lt}
+use Rattle.std.proofs.Common.{◌≡◌, refl, ap, sym, ◌∙◌, List, ◌++◌, map, ℕ, ◌+◌, ◌≤◌, ◌<◌, zero-le, zero-add, not-suc-le-zero, arith, length, get_or, take, drop, set, take-append-drop, length-take, length-set, get_or-set_same, get_or-set_other, get_or-take, length-take-le, drop-set-lt}
+use Rattle.std.proofs.Math.Decide.{ℕ_discrete}
 use Rattle.model.specs.Lists.{from}
 use Rattle.theory.proofs.Lists.Rows.{map-from}
 use Rattle.layout.specs.limits.Rows.{at, node_of, binding_of}
@@ -53,8 +47,12 @@ module _ {rows bindings list : List ℕ} {n : ℕ} (listed : Listed rows binding
   pub list-fits : n ≤ length list
   list-fits = omega (arith, listed.ordered.as_many, length-book_of rows n, length-take n list)
 
-  length-list : length (take n list) ≡ n
+  pub length-list : length (take n list) ≡ n
   length-list = length-take-le n list list-fits
+
+  -- the turn k of a loop along those terms
+  pub turn : (k : ℕ) → k < length (take n list) → (k < n) × (at (take n list) k ≡ at list k)
+  turn k l = let m : k < n = omega (arith, length-list) in (m, get_or-take n list k 0 m)
 
   pub term-lt : (k : ℕ) → k < n → at list k < n
   term-lt k l =

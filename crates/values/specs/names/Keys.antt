@@ -1,6 +1,6 @@
 -- Keys of terms: the symbol of an application and the classes of its arguments, and a hash of them. Assumes nothing: these are
 -- definitions.
-use Rattle.std.specs.Prelude.{◌≡◌, List, [], ◌∷◌, map, ℕ, suc, ◌+◌, ◌*◌, ◌/◌, ◌%◌, ◌≤◌, ◌<◌, length, get_or}
+use Rattle.std.specs.Prelude.{◌≡◌, List, [], ◌∷◌, map, ℕ, suc, ◌+◌, ◌*◌, ◌/◌, ◌%◌, ◌≤◌, ◌<◌, length, get_or, Option, MatchOption}
 use Rattle.model.specs.Term.{Node, var, app, arguments}
 use Rattle.model.specs.Area.{term_words}
 use Rattle.layout.specs.limits.Rows.{at, node_of}
@@ -30,8 +30,8 @@ pub record Rows (rows : List ℕ) (m : ℕ) (list : List ℕ) (k : ℕ) : Type 0
   pub list-fits : k ≤ length list
   pub row : (j : ℕ) → j < k → Row rows m (at list j)
 
--- A place of the key of term t among the first k of the list, or k where there is none.
-pub record Earlier (rows classes list : List ℕ) (k t r : ℕ) : Type 0 where
-  pub within : r ≤ k
-  pub same : r < k → key_at rows classes t ≡ key_at rows classes (at list r)
-  pub none : r ≡ k → (j : ℕ) → j < k → key_at rows classes t ≡ key_at rows classes (at list j) → ⊥
+-- A place of the key of term t among the first k of the list, or none where there is none.
+abbrev pub Earlier : List ℕ → List ℕ → List ℕ → ℕ → ℕ → Option ℕ → Type 0
+Earlier rows classes list k t r =
+    MatchOption r ((j : ℕ) → j < k → key_at rows classes t ≡ key_at rows classes (at list j) → ⊥)
+    (λ j. (j < k) × (key_at rows classes t ≡ key_at rows classes (at list j)))

@@ -1,11 +1,10 @@
 -- What holds between the steps of a walk through the terms: each term has a mark, 0 before it is met, 1 in progress and 2
 -- once it is finished, and the finished terms are listed. Assumes nothing: these are definitions.
-use Rattle.std.specs.Prelude.{◌≡◌, List, Bool, true, false, cond, ℕ, zero, suc, ◌≤◌, ◌<◌, length, get_or, T, eqb}
+use Rattle.std.specs.Prelude.{◌≡◌, List, Bool, cond, ℕ, zero, suc, ◌≤◌, ◌<◌, length, get_or, T, eqb, Option, MatchOption}
 use Rattle.model.specs.Lists.{all}
 use Rattle.model.specs.Term.{Book, Bindings, ends}
 use Rattle.layout.specs.limits.Rows.{book_of, bound_of, GoodTerms}
 use Rattle.values.specs.order.Order.{parts, Before}
-use Rattle.values.specs.declared.order.Walk.{Walk}
 
 -- How many numbers below n pass.
 unfoldable pub tally : (ℕ → Bool) → ℕ → ℕ
@@ -52,7 +51,9 @@ pub record Walkable (rows bindings : List ℕ) (n t : ℕ) (marks list : List �
   pub term : t < n
   pub marking : Marking (book_of rows n) (bound_of bindings n) marks list done
 
--- The answer of a walk of the terms us, from the marks before it to the marks and the list behind it.
-pub record WalkAnswers (rows bindings : List ℕ) (n : ℕ) (us before marks list : List ℕ) (w : Walk) : Type 0 where
-  pub accepts : w.ok ≡ true → Finished (book_of rows n) (bound_of bindings n) before us marks list w.done
-  pub refuses : w.ok ≡ false → Stuck (book_of rows n) (bound_of bindings n) before us
+-- The answer of a walk of the terms us, from the marks before it to the marks and the list behind it: how many terms are
+-- finished, or none.
+abbrev pub WalkAnswers : List ℕ → List ℕ → ℕ → List ℕ → List ℕ → List ℕ → List ℕ → Option ℕ → Type 0
+WalkAnswers rows bindings n us before marks list w =
+    MatchOption w (Stuck (book_of rows n) (bound_of bindings n) before us)
+    (λ done. Finished (book_of rows n) (bound_of bindings n) before us marks list done)

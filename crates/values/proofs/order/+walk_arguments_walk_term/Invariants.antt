@@ -1,6 +1,6 @@
--- The measure of the two walks is the count of terms that are to be met, twice, and one more for a walk of parts; that of its loop
--- is the parts that are left, and those before them are walked.
-use Rattle.std.proofs.Common.{◌+◌, ◌*◌, ◌-◌}
+-- The measure of the two walks is the count of terms that are to be met, twice, and one more for a walk of parts; behind i turns of
+-- its loop the parts before the i-th are walked.
+use Rattle.std.proofs.Common.{◌+◌, ◌*◌}
 use Rattle.values.specs.order.Marking.{marked}
 use Rattle.values.proofs.order.Outcomes.{Between}
 use Rattle.values.proofs.order.+walk_arguments_walk_term.Given as goal
@@ -13,6 +13,3 @@ decreases-walk_term l = 2 * marked l.marks.now l.n 0
 
 abbrev pub invariant-walk_arguments-loop-i : goal.invariant-walk_arguments-loop-i
 invariant-walk_arguments-loop-i l = Between l.rows l.bindings l.n l.t l.fn.marks l.marks l.list l.place l.i
-
-abbrev pub decreases-walk_arguments-loop-i : goal.decreases-walk_arguments-loop-i
-decreases-walk_arguments-loop-i l = l.count - l.i

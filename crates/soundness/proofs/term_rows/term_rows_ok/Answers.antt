@@ -1,0 +1,18 @@
+-- `term_rows::term_rows_ok`: what `all` answers, and each return follows it. Assumes nothing.
+use Rattle.std.proofs.Common.{◌≡◌, rules, tests}
+use Rattle.model.specs.Lists.{all, from}
+use Rattle.soundness.specs.rows.RowTests.{term_row_ok, term_rows_ok}
+use Rattle.soundness.proofs.rows.Loops.{all-range}
+use Rattle.soundness.proofs.term_rows.term_rows_ok.Goals as goal
+use Rattle.soundness.proofs.term_rows.term_rows_ok.Goals.{After-all}
+
+each : (c : After-all) → c.all.result ≡ all (term_row_ok c.args.rows.now) (from 0 c.args.n)
+each c = all-range (term_row_ok c.args.rows.now) c.args.n _ c.all.ensures.runs (cc) (λ x b q k. search (rules, tests))
+
+pub returns-then-all : goal.returns-then-all
+unfolding term_rows_ok
+returns-then-all c = rw (← each (goal.at.returns-then-all c).After-all, c.if-all.true) c.zero_from.ensures
+
+pub returns-else-all : goal.returns-else-all
+unfolding term_rows_ok
+returns-else-all c = rw (← each (goal.at.returns-else-all c).After-all, c.if-all.false)

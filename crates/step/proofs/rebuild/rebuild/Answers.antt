@@ -1,0 +1,30 @@
+-- `rebuild::rebuild` meets its contract: the terms have names, so the table is indexed by them, and then walked through. Assumes
+-- nothing.
+use Rattle.table.proofs.index.Standing.{index_sizes}
+use Rattle.step.proofs.rebuild.Rebuilt.{to_index, to_walk}
+use Rattle.step.proofs.rebuild.rebuild.Goals as goal
+
+pub index-requires : goal.index-requires
+index-requires c =
+    record {
+      book = _;
+      bound = _;
+      table = _;
+      known = to_index c.requires (c.name_terms.ensures.values c.if-not-name_terms.false) c.name_terms.auto.lefts c.name_terms.auto.rights c.name_terms.auto.cells;
+    }
+
+pub walk_and_settle-requires : goal.walk_and_settle-requires
+walk_and_settle-requires c =
+    record {
+      book = _;
+      bound = _;
+      table = _;
+      known = to_walk c.requires (c.name_terms.ensures.values c.if-not-name_terms.false) c.name_terms.auto.lefts c.name_terms.auto.rights c.name_terms.auto.cells
+          (index_sizes c.index.auto.lefts c.index.auto.rights c.index.auto.cells) c.index.ensures;
+    }
+
+pub returns : goal.returns
+returns c =
+    c.walk_and_settle.ensures _ _ _
+    (to_walk c.requires (c.name_terms.ensures.values c.if-not-name_terms.false) c.name_terms.auto.lefts c.name_terms.auto.rights c.name_terms.auto.cells
+    (index_sizes c.index.auto.lefts c.index.auto.rights c.index.auto.cells) c.index.ensures)

@@ -1,0 +1,7 @@
+-- The words of the terms so far are the flags of their values.
+use Rattle.values.proofs.roots.Settled.{Filled}
+use Rattle.values.proofs.roots.Flags.{IsFlag}
+use Rattle.values.proofs.roots.occurs_in.Given as goal
+
+abbrev pub invariant-loop-u : goal.invariant-loop-u
+invariant-loop-u l = Filled l.rows l.bindings l.list l.n (IsFlag l.rows l.bindings l.n l.v) l.initial.flags l.flags l.u-index

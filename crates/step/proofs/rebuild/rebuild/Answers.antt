@@ -20,11 +20,11 @@ walk_and_settle-requires c =
       bound = _;
       table = _;
       known = to_walk c.requires (c.name_terms.ensures.values c.if-not-name_terms.false) c.name_terms.auto.lefts c.name_terms.auto.rights c.name_terms.auto.cells
-          (index_sizes c.index.auto.lefts c.index.auto.rights c.index.auto.cells) c.index.ensures;
+          (index_sizes c.index.ensures.same_slices.lefts_long c.index.ensures.same_slices.rights_long c.index.ensures.same_slices.cells_long) c.index.ensures.indexed;
     }
 
-pub returns : goal.returns
-returns c =
-    c.walk_and_settle.ensures _ _ _
+pub returns-clause-settled : goal.returns-clause-settled
+returns-clause-settled c =
+    c.walk_and_settle.ensures.settled _ _ _
     (to_walk c.requires (c.name_terms.ensures.values c.if-not-name_terms.false) c.name_terms.auto.lefts c.name_terms.auto.rights c.name_terms.auto.cells
-    (index_sizes c.index.auto.lefts c.index.auto.rights c.index.auto.cells) c.index.ensures)
+    (index_sizes c.index.ensures.same_slices.lefts_long c.index.ensures.same_slices.rights_long c.index.ensures.same_slices.cells_long) c.index.ensures.indexed)

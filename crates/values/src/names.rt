@@ -7,11 +7,13 @@ ghost use Rattle.model.specs.Area.{term_words};
 ghost use Rattle.model.specs.Lists.{from, eq_numbers};
 ghost use Rattle.model.specs.Term.{name};
 ghost use Rattle.layout.specs.limits.Rows.{at, book_of, bound_of};
+ghost use Rattle.pairs.specs.Lent.{SameSlices};
 ghost use Rattle.values.specs.roots.Reading.{Listed};
 ghost use Rattle.values.specs.names.Keys.{mixed, hash_from, key_at, Row, Rows, Earlier};
 ghost use Rattle.values.specs.names.Classes.{Classable, class_of, Scratch, SameClasses, Seen, Nameable, lowest_same};
 
 use crate::term;
+use pairs::Index;
 
 // The hash `h` with `c` in it. `c` is in the factor too, so that what it changes depends on the numbers before it: a hash that is
 // linear in them could be met by lists built for it.
@@ -89,7 +91,7 @@ fn search_keys(rows: &[u32], classes: &[u32], list: &[u32], k: usize, t: u32) ->
 }
 
 // The same, where `place` is the only place to look at if the hash of no other key is that of `t`, or `k` if that of none is (what
-// `pairs::push` answers).
+// `Index::push` answers).
 fn earlier(
     rows: &[u32],
     classes: &[u32],
@@ -145,20 +147,19 @@ fn classify(
     n: u32,
     classes: &mut [u32],
     list: &[u32],
-    lefts: &mut [u32],
-    rights: &mut [u32],
-    cells: &mut [u32],
+    index: &mut Index,
 )
-    requires scratch { Scratch classes.old lefts.old rights.old cells.old n }
+    requires scratch { Scratch classes.old index.old.lefts.now index.old.rights.now index.old.cells.now n }
     requires listed { Listed rows.now bindings.now list.now n }
-    ensures { SameClasses (book_of rows.now n) (bound_of bindings.now n) classes.new n }
+    ensures classes { SameClasses (book_of rows.now n) (bound_of bindings.now n) classes.new n }
+    ensures same_slices { SameSlices index.old index.new }
 {
-    layout::clearing::clear(cells, pairs::BUCKETS);
+    index.clear();
     for (k, &t) in list[..n as usize].iter().enumerate() {
         let h = key_hash(rows, classes, t);
         let high = (h / 4294967296) as u32;
         let low = (h % 4294967296) as u32;
-        let place = pairs::push(lefts, rights, cells, k, high, low);
+        let place = index.push(k, high, low);
         classes[t as usize] = class_of(rows, bindings, n, classes, list, k, place);
     }
 }
@@ -192,8 +193,8 @@ fn lowest_of_class(classes: &[u32], n: u32, names: &mut [u32], firsts: &mut [u32
     }
 }
 
-// The name of each of the `n` terms, the lowest term with its value, into `names`. `lefts`, `rights`, `cells` and
-// `classes` are scratch.
+// The name of each of the `n` terms, the lowest term with its value, into `names`. The classes and the index are
+// scratch.
 pub fn names(
     rows: &[u32],
     bindings: &[u32],
@@ -201,15 +202,14 @@ pub fn names(
     classes: &mut [u32],
     list: &[u32],
     names: &mut [u32],
-    lefts: &mut [u32],
-    rights: &mut [u32],
-    cells: &mut [u32],
+    index: &mut Index,
 )
     requires listed { Listed rows.now bindings.now list.now n }
-    requires scratch { Scratch classes.old lefts.old rights.old cells.old n }
+    requires scratch { Scratch classes.old index.old.lefts.now index.old.rights.now index.old.cells.now n }
     requires names { n ≤ length names.old }
-    ensures { names.new ≡ map (name (book_of rows.now n) (bound_of bindings.now n)) (from 0 n) ++ drop n names.old }
+    ensures names { names.new ≡ map (name (book_of rows.now n) (bound_of bindings.now n)) (from 0 n) ++ drop n names.old }
+    ensures same_slices { SameSlices index.old index.new }
 {
-    classify(rows, bindings, n, classes, list, lefts, rights, cells);
-    lowest_of_class(classes, n, names, lefts);
+    classify(rows, bindings, n, classes, list, index);
+    lowest_of_class(classes, n, names, index.lefts);
 }

@@ -15,12 +15,10 @@ fn root_of(rows: &[u32], bindings: &[u32], roots: &[u32], t: u32) -> u32
     requires { Readable rows.now bindings.now t (length roots.now) }
     ensures { result ≡ deref_step (at roots.now) t (node_of rows.now t) (binding_of bindings.now t) }
 {
-    if term::symbol(rows, t) != 0 {
-        return t;
-    }
-    match term::bound(bindings, t) {
-        Some(u) => roots[u as usize],
-        None => t,
+    match (term::arguments(rows, t), term::bound(bindings, t)) {
+        (Some(_), _) => t,
+        (None, Some(u)) => roots[u as usize],
+        (None, None) => t,
     }
 }
 
@@ -47,12 +45,10 @@ fn occurs_step(rows: &[u32], bindings: &[u32], flags: &[u32], v: u32, t: u32) ->
     requires { Readable rows.now bindings.now t (length flags.now) }
     ensures { result ≡ occurs_step (flagged flags.now) v t (node_of rows.now t) (binding_of bindings.now t) }
 {
-    if term::symbol(rows, t) != 0 {
-        return any_flagged(term::arguments(rows, t), flags);
-    }
-    match term::bound(bindings, t) {
-        Some(u) => flags[u as usize] != 0,
-        None => v == t,
+    match (term::arguments(rows, t), term::bound(bindings, t)) {
+        (Some(args), _) => any_flagged(args, flags),
+        (None, Some(u)) => flags[u as usize] != 0,
+        (None, None) => v == t,
     }
 }
 

@@ -14,6 +14,7 @@ use crate::term;
 
 // The hash `h` with `c` in it. `c` is in the factor too, so that what it changes depends on the numbers before it: a hash that is
 // linear in them could be met by lists built for it.
+#[tactic(auto, unfolding(crate::specs::names::Keys::mixed))]
 fn mix(h: u64, c: u32) -> u64
     ensures { result ≡ mixed h c }
 {

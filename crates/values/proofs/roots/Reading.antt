@@ -34,10 +34,10 @@ readable rows bindings n t m good l h =
 
 module _ {rows bindings : List ℕ} {t m : ℕ} (r : Readable rows bindings t m) where
   -- the term that a variable is bound to, and the arguments of an application, are below m
-  pub bound-below : {u : ℕ} → node_of rows t ≡ var → binding_of bindings t ≡ some u → u < m
+  pub bound_below : {u : ℕ} → node_of rows t ≡ var → binding_of bindings t ≡ some u → u < m
   unfolding parts_of
-  bound-below p q = (rw (p, q) at r.parts_below) 0 (suc-le-suc zero-le)
+  bound_below p q = (rw (p, q) at r.parts_below) 0 (suc-le-suc zero-le)
 
-  pub arguments-below : {s : ℕ} {args : List ℕ} → node_of rows t ≡ app s args → (j : ℕ) → j < length args → at args j < m
+  pub arguments_below : {s : ℕ} {args : List ℕ} → node_of rows t ≡ app s args → (j : ℕ) → j < length args → at args j < m
   unfolding parts_of
-  arguments-below p = rw p at r.parts_below
+  arguments_below p = rw p at r.parts_below

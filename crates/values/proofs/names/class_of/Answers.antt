@@ -1,7 +1,7 @@
 -- At each return what was read says which case of a class holds.
 use Rattle.std.proofs.Common.{◌≡◌, sym, ◌∙◌, arith}
 use Rattle.model.specs.Term.{var, app}
-use Rattle.values.proofs.roots.Reading.{bound-below}
+use Rattle.values.proofs.roots.Reading.{bound_below}
 use Rattle.values.proofs.roots.Settled.{list-fits}
 use Rattle.values.proofs.names.ClassOf.{t_readable, earlier_rows, earlier_place, class-free, class-bound, class-new, old-place, class-old}
 use Rattle.values.proofs.names.class_of.Goals as goal
@@ -34,7 +34,7 @@ pub returns-in-None : goal.returns-in-None
 returns-in-None c = class-new c.requires c.in-Some-default.ensures c.in-None.ensures
 
 pub bounds-classes-u : goal.bounds-classes-u
-bounds-classes-u c = bound-below (t_readable c.requires) c.in-None-Some.ensures c.in-None-Some.ensures'
+bounds-classes-u c = bound_below (t_readable c.requires) c.in-None-Some.ensures c.in-None-Some.ensures'
 
 pub returns-in-None-Some : goal.returns-in-None-Some
 returns-in-None-Some c = class-bound c.requires c.in-None-Some.ensures c.in-None-Some.ensures'

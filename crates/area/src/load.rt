@@ -2,18 +2,16 @@
 
 ghost use Rattle.std.specs.Prelude.{◌≡◌, T};
 ghost use Rattle.model.specs.Area.{word};
-ghost use Rattle.theory.specs.Modest.{Modest};
 ghost use Rattle.layout.specs.limits.Limits.{limits_of};
-ghost use Rattle.soundness.specs.sound.Sound.{loaded, header_ok, rows_ok};
-ghost use Rattle.layout.specs.header.Held.{held};
-ghost use Rattle.area.specs.load.Loading.{Sizes, Words, Used};
+ghost use Rattle.soundness.specs.sound.Sound.{loaded, header_ok};
+ghost use Rattle.area.specs.load.Loading.{Sizes, Words};
 
 use layout::header::Header;
 use layout::limits::Limits;
 
 // Whether the header's numbers lie in their ranges and the area has the length that its capacity needs.
+#[tactic(auto, using(std::proofs::lemmas::Bool::Decides::nat_tests), unfolding(soundness::specs::sound::Sound::header_ok, model::specs::Area::area_length))]
 pub fn header_ok(lim: Limits, area: &[u8]) -> bool
-    requires { Modest (limits_of lim) }
     ensures { result ≡ header_ok (limits_of lim) area.now }
 {
     if area.len() < layout::limits::WORD_BYTES * layout::limits::HEADER_WORDS {
@@ -21,22 +19,12 @@ pub fn header_ok(lim: Limits, area: &[u8]) -> bool
     }
     let h = layout::header::load_header(area);
     let capacity = h.capacity as usize;
-    if capacity < 1 {
-        return false;
-    }
-    if lim.capacity < capacity {
-        return false;
-    }
-    if lim.terms < h.terms as usize {
-        return false;
-    }
-    if h.capacity < h.entries {
-        return false;
-    }
-    if lim.lines < h.lines as usize {
-        return false;
-    }
-    layout::offsets::needed_length(lim, capacity) <= area.len()
+    1 <= capacity
+        && capacity <= lim.capacity
+        && h.terms as usize <= lim.terms
+        && h.entries <= h.capacity
+        && h.lines as usize <= lim.lines
+        && layout::offsets::needed_length(lim, capacity) <= area.len()
 }
 
 // Loads the rows of an area whose header is in order.
@@ -48,7 +36,7 @@ pub fn load(
     lines: &mut [u32],
     entries: &mut [u32],
 )
-    requires { Modest (limits_of lim) × T (header_ok (limits_of lim) area.now)
+    requires { T (header_ok (limits_of lim) area.now)
         × Sizes (limits_of lim) (word area.now 0) rows.old bindings.old lines.old entries.old }
     ensures { Words (loaded (limits_of lim) area.now) rows.new bindings.new lines.new entries.new }
 {
@@ -58,21 +46,32 @@ pub fn load(
     layout::words::load(area, layout::offsets::entries_at(lim), entries);
 }
 
-// Whether the loaded rows pass the tests that look at words alone.
-pub fn rows_ok(h: Header, rows: &[u32], bindings: &[u32], lines: &[u32], entries: &[u32]) -> bool
-    requires { Used (held h rows.now bindings.now lines.now entries.now) }
-    ensures { result ≡ rows_ok (held h rows.now bindings.now lines.now entries.now) }
-{
-    let n = h.terms as usize;
-    if !soundness::term_rows::term_rows_ok(rows, n) {
-        return false;
+// A state in a header and slices, as it is loaded.
+#[derive(Clone, Copy)]
+pub struct Held<'a> {
+    pub header: Header,
+    pub rows: &'a [u32],
+    pub bindings: &'a [u32],
+    pub lines: &'a [u32],
+    pub entries: &'a [u32],
+}
+
+impl<'a> Held<'a> {
+    ghost use Rattle.soundness.specs.sound.Sound.{rows_ok};
+    ghost use Rattle.area.specs.load.Loading.{Used};
+    ghost use Rattle.area.specs.load.Held.{state_in};
+
+    // Whether the loaded rows pass the tests that look at words alone.
+    #[tactic(auto, unfolding(soundness::specs::sound::Sound::rows_ok))]
+    pub fn rows_ok(self) -> bool
+        requires { Used (state_in self) }
+        ensures { result ≡ rows_ok (state_in self.entry) }
+    {
+        let n = self.header.terms as usize;
+        let m = self.header.entries as usize;
+        soundness::term_rows::term_rows_ok(self.rows, n)
+            && soundness::term_rows::bindings_ok(self.rows, self.bindings, n)
+            && soundness::table_rows::lines_ok(self.lines, self.header.lines as usize, m)
+            && soundness::table_rows::entry_rows_ok(self.entries, m, n)
     }
-    if !soundness::term_rows::bindings_ok(rows, bindings, n) {
-        return false;
-    }
-    let m = h.entries as usize;
-    if !soundness::table_rows::lines_ok(lines, h.lines as usize, m) {
-        return false;
-    }
-    soundness::table_rows::entry_rows_ok(entries, m, n)
 }

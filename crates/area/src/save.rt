@@ -4,44 +4,35 @@ ghost use Rattle.std.specs.Prelude.{◌≡◌, ◌*◌, ◌≤◌, length};
 ghost use Rattle.model.specs.Lists.{concat_map};
 ghost use Rattle.model.specs.Area.{word_size, term_words, to_bytes, area_length};
 ghost use Rattle.model.specs.Call.{over};
-ghost use Rattle.theory.specs.Modest.{Modest};
 ghost use Rattle.layout.specs.limits.Limits.{limits_of};
 ghost use Rattle.layout.specs.limits.Rows.{Sized, loaded_words};
-ghost use Rattle.layout.specs.header.Held.{held};
+ghost use Rattle.area.specs.load.Held.{state_in};
 ghost use Rattle.area.specs.save.Opened.{opened_words};
 
-// Writes the needed length of an area; what lies beyond it stays.
-pub fn store(
-    lim: layout::limits::Limits,
-    area: &mut [u8],
-    h: layout::header::Header,
-    rows: &[u32],
-    bindings: &[u32],
-    lines: &[u32],
-    entries: &[u32],
-)
-    requires { Modest (limits_of lim) × Sized (limits_of lim) (held h rows.now bindings.now lines.now entries.now)
-        × (area_length (limits_of lim) h.capacity ≤ length area.old) }
-    ensures { area.new ≡ over (concat_map (to_bytes word_size)
-        (loaded_words (held h rows.now bindings.now lines.now entries.now))) area.old }
-{
-    layout::header::store_header(area, h);
-    layout::words::store(area, layout::limits::HEADER_WORDS, rows);
-    layout::words::store(area, layout::offsets::bindings_at(lim), bindings);
-    layout::words::store(area, layout::offsets::lines_at(lim), lines);
-    layout::words::store(area, layout::offsets::entries_at(lim), entries);
+use crate::load::Held;
+use layout::limits::Limits;
+
+impl<'a> Held<'a> {
+    // Writes the needed length of an area; what lies beyond it stays.
+    #[tactic(auto, unfolding(model::specs::Area::area_length))]
+    pub fn store(self, lim: Limits, area: &mut [u8])
+        requires { Sized (limits_of lim) (state_in self)
+            × (area_length (limits_of lim) self.header.capacity ≤ length area.old) }
+        ensures { area.new ≡ over (concat_map (to_bytes word_size)
+            (loaded_words (state_in self.entry))) area.old }
+    {
+        layout::header::store_header(area, self.header);
+        layout::words::store(area, layout::limits::HEADER_WORDS, self.rows);
+        layout::words::store(area, layout::offsets::bindings_at(lim), self.bindings);
+        layout::words::store(area, layout::offsets::lines_at(lim), self.lines);
+        layout::words::store(area, layout::offsets::entries_at(lim), self.entries);
+    }
 }
 
 // Writes an area just opened: the header, the term rows, and zeros up to the needed length.
-pub fn opened(
-    lim: layout::limits::Limits,
-    area: &mut [u8],
-    capacity: u32,
-    needed: usize,
-    rows: &[u32],
-    terms: u32,
-)
-    requires { Modest (limits_of lim) × (needed ≡ area_length (limits_of lim) capacity) × (needed ≤ length area.old) × (length rows.now ≡ term_words * lim.terms) }
+#[tactic(auto, unfolding(model::specs::Area::area_length))]
+pub fn opened(lim: Limits, area: &mut [u8], capacity: u32, needed: usize, rows: &[u32], terms: u32)
+    requires { (needed ≡ area_length (limits_of lim) capacity) × (needed ≤ length area.old) × (length rows.now ≡ term_words * lim.terms) }
     ensures { area.new ≡ over (concat_map (to_bytes word_size) (opened_words (limits_of lim) capacity terms rows.now)) area.old }
 {
     let header = layout::header::Header {

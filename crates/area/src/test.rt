@@ -3,16 +3,18 @@
 ghost use Rattle.std.specs.Prelude.{◌≡◌, true, ◌*◌, take};
 ghost use Rattle.model.specs.Area as Area;
 ghost use Rattle.model.specs.Area.{entry_row_words, word};
-ghost use Rattle.theory.specs.Modest.{Modest};
 ghost use Rattle.layout.specs.limits.Limits.{limits_of};
 ghost use Rattle.layout.specs.header.Held.{held};
 ghost use Rattle.area.specs.load.Loading.{Sizes, header_of};
 ghost use Rattle.area.specs.load.Ready.{Lent, ReadFrom};
 
+use crate::load::Held;
 use layout::limits::Limits;
 
 // Whether an area of any length and any bytes is sound; then the slices hold the words of its state, those of the entries at the
 // front of theirs, the list of its terms, what each stands for and its name. `lefts`, `rights` and `cells` are scratch.
+// The slices are parameters here and in `calls`: a struct of them would be no plainer, since each contract on it would have to say that it
+// keeps the `&mut`, and no ghost field of it could say what they hold.
 pub fn sound(
     lim: Limits,
     area: &[u8],
@@ -27,7 +29,6 @@ pub fn sound(
     rights: &mut [u32],
     cells: &mut [u32],
 ) -> bool
-    requires modest { Modest (limits_of lim) }
     requires sizes { Sizes (limits_of lim) lim.capacity rows.old bindings.old lines.old entries.old }
     requires lent { Lent (limits_of lim) list.old roots.old names.old lefts.old rights.old cells.old }
     ensures sound { result ≡ Area.sound (limits_of lim) area.now }
@@ -38,17 +39,20 @@ pub fn sound(
     if !crate::load::header_ok(lim, area) {
         return false;
     }
-    let h = layout::header::load_header(area);
-    let end = layout::limits::ENTRY_WORDS * (h.capacity as usize);
+    let header = layout::header::load_header(area);
+    let n = header.terms;
+    let m = header.entries as usize;
+    let end = layout::limits::ENTRY_WORDS * (header.capacity as usize);
     let table = &mut entries[..end];
     crate::load::load(lim, area, rows, bindings, lines, table);
-    if !crate::load::rows_ok(h, rows, bindings, lines, table) {
-        return false;
-    }
-    let n = h.terms;
-    if !values::evaluate::name_terms(rows, bindings, n, list, roots, names, lefts, rights, cells) {
-        return false;
-    }
-    let m = h.entries as usize;
-    soundness::entries::table_ok(rows, roots, names, table, m, lefts, rights, cells)
+    let state = Held {
+        header,
+        rows,
+        bindings,
+        lines,
+        entries: table,
+    };
+    state.rows_ok()
+        && values::evaluate::name_terms(rows, bindings, n, list, roots, names, lefts, rights, cells)
+        && soundness::entries::table_ok(rows, roots, names, table, m, lefts, rights, cells)
 }

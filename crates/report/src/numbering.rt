@@ -2,10 +2,11 @@
 // (specs/numbering/Numbering.antt).
 
 ghost use Rattle.std.specs.Prelude.{◌≡◌, [], ◌∷◌, ◌++◌, map, ℕ, ◌+◌, ◌*◌, ◌≤◌, ◌<◌, length, get_or, drop};
+ghost use Rattle.std.proofs.Props.{props};
 ghost use Rattle.model.specs.Area.{entry_row_words};
 ghost use Rattle.model.specs.Report.{class, argument_classes};
 ghost use Rattle.layout.specs.limits.Rows.{loaded_entry, table_of};
-ghost use Rattle.report.specs.numbering.Numbering.{Entries, Closed, Marked, new_number, NumberRoom, MetSoFar, MetAll, Numbered};
+ghost use Rattle.report.specs.numbering.Numbering.{Entries, Closed, Marked, new_number, NumberRoom, MetSoFar, Numbered};
 
 // The class of the entry in row `i`.
 fn class_at(entries: &[u32], i: usize) -> u32
@@ -15,73 +16,59 @@ fn class_at(entries: &[u32], i: usize) -> u32
     layout::entry::entry_at(entries, i).same_as
 }
 
-// Meets class `x` of `m`: it gets the next number unless it has one. The answer is how many classes were met.
-// `met`, `numbers` and `count` are parameters here and below: a struct of them would be no plainer, since each contract on it would have
-// to say of two `&mut` that it keeps them (`self.new.met.ghost_name ≡ self.old.met.ghost_name`), and it could have no ghost field.
-fn meet(m: usize, met: &mut [u32], numbers: &mut [u32], count: usize, x: u32) -> usize
-    requires met_so_far { MetSoFar m met.old numbers.old count }
-    requires x_lt_m { x < m }
-    ensures { MetAll m met.old count (x ∷ []) met.new numbers.new result }
-{
-    let place = x as usize;
-    if numbers[place] != 0 {
-        return count;
-    }
-    let next = count + 1;
-    met[count] = x;
-    numbers[place] = next as u32;
-    next
+// The classes that are met of the table in the first `m` rows: the first `count` words of `met` are those so far, and `numbers` has for
+// each class its number plus 1, or 0.
+#[derive(Drop)]
+struct Classes<'a> {
+    entries: &'a [u32],
+    m: usize,
+    met: &'a mut [u32],
+    numbers: &'a mut [u32],
+    count: usize,
+    ghost closed: { Closed entries.now m } by { Prim.hlevel props },
+    ghost sound: { MetSoFar m met.now numbers.now count } by { Prim.hlevel props },
 }
 
-// Meets the classes of the entries `items`, one after the other.
-fn meet_all(
-    items: &[u32],
-    entries: &[u32],
-    m: usize,
-    met: &mut [u32],
-    numbers: &mut [u32],
-    count: usize,
-) -> usize
-    requires closed { Closed entries.now m × Entries m items.now }
-    requires met_so_far { MetSoFar m met.old numbers.old count }
-    ensures { MetAll m met.old count (map (class (table_of entries.now m)) items.now)
-        met.new numbers.new result }
-{
-    let mut n = count;
-    for i in items {
-        let x = class_at(entries, *i as usize);
-        n = meet(m, met, numbers, n, x);
-    }
-    n
-}
+impl<'a> Classes<'a> {
+    ghost use Rattle.report.specs.numbering.Classes.{Meets};
 
-// Meets the classes of the arguments of entry `i`.
-fn meet_arguments(
-    entries: &[u32],
-    m: usize,
-    i: usize,
-    met: &mut [u32],
-    numbers: &mut [u32],
-    count: usize,
-) -> usize
-    requires closed { Closed entries.now m × (i < m) }
-    requires met_so_far { MetSoFar m met.old numbers.old count }
-    ensures { MetAll m met.old count (argument_classes (table_of entries.now m) i)
-        met.new numbers.new result }
-{
-    let e = layout::entry::entry_at(entries, i);
-    if e.kind == 0 {
-        return count;
+    // Meets class `x`: it gets the next number unless it has one.
+    fn meet(&mut self, x: u32)
+        requires { x < self.old.m }
+        ensures { Meets self.old (x ∷ []) self.new }
+    {
+        let place = x as usize;
+        if self.numbers[place] != 0 {
+            return;
+        }
+        let next = self.count + 1;
+        self.met[self.count] = x;
+        self.numbers[place] = next as u32;
+        self.count = next;
     }
-    let arguments = e.arguments;
-    meet_all(
-        &arguments[..e.count as usize],
-        entries,
-        m,
-        met,
-        numbers,
-        count,
-    )
+
+    // Meets the classes of the entries `items`, one after the other.
+    fn meet_all(&mut self, items: &[u32])
+        requires { Entries self.old.m items.now }
+        ensures { Meets self.old (map (class (table_of self.old.entries.now self.old.m)) items.now) self.new }
+    {
+        for i in items {
+            let x = class_at(self.entries, *i as usize);
+            self.meet(x);
+        }
+    }
+
+    // Meets the classes of the arguments of entry `i`.
+    fn meet_arguments(&mut self, i: usize)
+        requires { i < self.old.m }
+        ensures { Meets self.old (argument_classes (table_of self.old.entries.now self.old.m) i) self.new }
+    {
+        let e = layout::entry::entry_at(self.entries, i);
+        if e.kind != 0 {
+            let arguments = e.arguments;
+            self.meet_all(&arguments[..e.count as usize]);
+        }
+    }
 }
 
 // The new numbers of the entries `items`, by the marks, to the front of `out`.
@@ -111,13 +98,20 @@ pub fn number_classes(
     ensures { Numbered (table_of entries.now m) lines.now met.new numbers.new result }
 {
     layout::clearing::clear(numbers, m);
-    let mut count = meet_all(lines, entries, m, met, numbers, 0);
+    let mut classes = Classes {
+        entries,
+        m,
+        met,
+        numbers,
+        count: 0,
+    };
+    classes.meet_all(lines);
     let mut i = 0;
-    // `count` grows in the loop.
-    while i < count {
-        let x = met[i] as usize;
-        count = meet_arguments(entries, m, x, met, numbers, count);
+    // The bound grows in the loop.
+    while i < classes.count {
+        let x = classes.met[i] as usize;
+        classes.meet_arguments(x);
         i += 1;
     }
-    count
+    classes.count
 }

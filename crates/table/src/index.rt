@@ -1,27 +1,24 @@
 // The index of a pair table in slices, as its definition says (specs/index/Indexing.antt; document 01, "The pair table"). The slices are
 // those of module `visit`.
 
+ghost use Rattle.pairs.specs.Lent.{SameSlices};
 ghost use Rattle.table.specs.place.Stands.{GivenTable, Whatever};
 ghost use Rattle.table.specs.index.Indexing.{ToIndex, IsIndexed};
 
+use pairs::Index;
+
 // Builds the index of the table of `m` entries: their names are pushed in order.
-pub fn index(
-    names: &[u32],
-    entries: &[u32],
-    m: usize,
-    lefts: &mut [u32],
-    rights: &mut [u32],
-    cells: &mut [u32],
-)
-    requires { GivenTable (ToIndex names.now entries.now lefts.old rights.old cells.old m) }
-    ensures { Whatever (ToIndex names.now entries.now lefts.old rights.old cells.old m)
-        (IsIndexed lefts.new rights.new cells.new m) }
+pub fn index(names: &[u32], entries: &[u32], m: usize, index: &mut Index)
+    requires { GivenTable (ToIndex names.now entries.now index.old.lefts.now index.old.rights.now index.old.cells.now m) }
+    ensures indexed { Whatever (ToIndex names.now entries.now index.old.lefts.now index.old.rights.now index.old.cells.now m)
+        (IsIndexed index.new.lefts.now index.new.rights.now index.new.cells.now m) }
+    ensures same_slices { SameSlices index.old index.new }
 {
-    layout::clearing::clear(cells, pairs::BUCKETS);
+    index.clear();
     for i in 0..m {
         let e = layout::entry::entry_at(entries, i);
         let left = names[e.left as usize];
         let right = names[e.right as usize];
-        pairs::push(lefts, rights, cells, i, left, right);
+        index.push(i, left, right);
     }
 }

@@ -1,12 +1,14 @@
 // Placing a pair in a pair table in slices (specs/place/Stands.antt, specs/place/Placing.antt; document 01, "The pair table"). `entries` has a row
-// for each entry of the capacity, of which the first `m` hold the table. `lefts` and `rights` hold the names of the two sides of
-// each entry, indexed by `cells`.
+// for each entry of the capacity, of which the first `m` hold the table. The names of the two sides of each entry
+// are indexed.
 
+ghost use Rattle.pairs.specs.Lent.{SameSlices};
 ghost use Rattle.table.specs.place.Stands.{GivenTable, Whatever};
 ghost use Rattle.table.specs.place.Placing.{ToPlace, IsPlaced};
 
 use layout::entry::Entry;
 use layout::limits::MAX_ARITY;
+use pairs::Index;
 use refusal::Refusal;
 
 // The entry of a pair, and the number of entries with it.
@@ -25,17 +27,16 @@ pub fn place(
     m: usize,
     l: u32,
     r: u32,
-    lefts: &mut [u32],
-    rights: &mut [u32],
-    cells: &mut [u32],
+    index: &mut Index,
 ) -> Result<Placed, Refusal>
-    requires { GivenTable (ToPlace names.now entries.old lefts.old rights.old cells.old capacity m l r) }
-    ensures { Whatever (ToPlace names.now entries.old lefts.old rights.old cells.old capacity m l r)
-        (IsPlaced entries.new lefts.new rights.new cells.new capacity l r result) }
+    requires { GivenTable (ToPlace names.now entries.old index.old.lefts.now index.old.rights.now index.old.cells.now capacity m l r) }
+    ensures placed { Whatever (ToPlace names.now entries.old index.old.lefts.now index.old.rights.now index.old.cells.now capacity m l r)
+        (IsPlaced entries.new index.new.lefts.now index.new.rights.now index.new.cells.now capacity l r result) }
+    ensures same_slices { SameSlices index.old index.new }
 {
     let left = names[l as usize];
     let right = names[r as usize];
-    let found = pairs::find(lefts, rights, cells, m, left, right);
+    let found = index.find(m, left, right);
     if found < m {
         return Ok(Placed {
             entry: found as u32,
@@ -55,7 +56,7 @@ pub fn place(
         same_as: m as u32,
     };
     layout::entry::put_entry(entries, m, hole);
-    pairs::push(lefts, rights, cells, m, left, right);
+    index.push(m, left, right);
     Ok(Placed {
         entry: m as u32,
         count: m + 1,

@@ -5,14 +5,18 @@ ghost use Rattle.model.specs.Table.{settle};
 ghost use Rattle.table.specs.place.Stands.{HoldsTable, GivenTable, Whatever};
 ghost use Rattle.table.specs.same_as.Settling.{ToSettle};
 
+use pairs::Index;
+
 // Sets same-as of the `m` entries: of each, the first entry with its two names.
-pub fn settle(entries: &mut [u32], m: usize, lefts: &[u32], rights: &[u32], cells: &[u32])
-    requires { GivenTable (ToSettle entries.old lefts.now rights.now cells.now m) }
-    ensures { Whatever (ToSettle entries.old lefts.now rights.now cells.now m)
+pub fn settle(entries: &mut [u32], m: usize, index: &Index)
+    requires { GivenTable (ToSettle entries.old index.now.lefts.now index.now.rights.now index.now.cells.now m) }
+    ensures { Whatever (ToSettle entries.old index.now.lefts.now index.now.rights.now index.now.cells.now m)
         (λ b β es. HoldsTable entries.new (settle b β es)) }
 {
     for i in 0..m {
-        let found = pairs::find(lefts, rights, cells, m, lefts[i], rights[i]);
+        let left = index.lefts[i];
+        let right = index.rights[i];
+        let found = index.find(m, left, right);
         let mut e = layout::entry::entry_at(entries, i);
         e.same_as = found as u32;
         layout::entry::put_entry(entries, i, e);

@@ -1,9 +1,11 @@
 // The walk of a pair table in slices, as its definition says (specs/saturate/Walking.antt; document 01, "The pair table"). The slices are those
 // of module `visit`.
 
+ghost use Rattle.pairs.specs.Lent.{SameSlices};
 ghost use Rattle.table.specs.place.Stands.{GivenTable, Whatever};
 ghost use Rattle.table.specs.saturate.Walking.{ToWalk, IsWalked};
 
+use pairs::Index;
 use refusal::Refusal;
 
 // How many of the old entries turned, and the number of entries after the walk.
@@ -21,13 +23,12 @@ pub fn walk(
     entries: &mut [u32],
     capacity: usize,
     m: usize,
-    lefts: &mut [u32],
-    rights: &mut [u32],
-    cells: &mut [u32],
+    index: &mut Index,
 ) -> Result<Walked, Refusal>
-    requires { GivenTable (ToWalk rows.now roots.now names.now entries.old lefts.old rights.old cells.old capacity m) }
-    ensures { Whatever (ToWalk rows.now roots.now names.now entries.old lefts.old rights.old cells.old capacity m)
-        (IsWalked entries.new lefts.new rights.new cells.new capacity result) }
+    requires { GivenTable (ToWalk rows.now roots.now names.now entries.old index.old.lefts.now index.old.rights.now index.old.cells.now capacity m) }
+    ensures walked { Whatever (ToWalk rows.now roots.now names.now entries.old index.old.lefts.now index.old.rights.now index.old.cells.now capacity m)
+        (IsWalked entries.new index.new.lefts.now index.new.rights.now index.new.cells.now capacity result) }
+    ensures same_slices { SameSlices index.old index.new }
 {
     let mut w = Walked {
         turned: 0,
@@ -36,9 +37,7 @@ pub fn walk(
     let mut i = 0;
     // a `while`: the bound grows where a visit appends entries
     while i < w.count {
-        let v = crate::visit::visit(
-            rows, roots, names, entries, capacity, w.count, i, lefts, rights, cells,
-        )?;
+        let v = crate::visit::visit(rows, roots, names, entries, capacity, w.count, i, index)?;
         if v.turned && i < m {
             w.turned += 1;
         }

@@ -4,11 +4,13 @@
 ghost use Rattle.std.specs.Prelude.{◌+◌, ◌*◌, ◌≤◌, length};
 ghost use Rattle.model.specs.Area.{term_words};
 ghost use Rattle.layout.specs.limits.Rows.{at};
+ghost use Rattle.pairs.specs.Lent.{SameSlices};
 ghost use Rattle.table.specs.place.Stands.{GivenTable, Whatever};
 ghost use Rattle.table.specs.visit.Visiting.{arguments_at, ToPlaceAll, ArePlaced, ToTurn, IsTurned, ToVisit, IsVisited};
 
 use layout::entry::Entry;
 use layout::limits::{MAX_ARITY, TERM_WORDS};
+use pairs::Index;
 use refusal::Refusal;
 
 // The entries of the argument pairs of two terms, and the number of entries with them.
@@ -34,15 +36,14 @@ fn place_all(
     m: usize,
     l: usize,
     r: usize,
-    lefts: &mut [u32],
-    rights: &mut [u32],
-    cells: &mut [u32],
+    index: &mut Index,
 ) -> Result<Arguments, Refusal>
-    requires given { GivenTable (ToPlaceAll names.now entries.old lefts.old rights.old cells.old capacity m (arguments_at rows.now l) (arguments_at rows.now r)) }
+    requires given { GivenTable (ToPlaceAll names.now entries.old index.old.lefts.now index.old.rights.now index.old.cells.now capacity m (arguments_at rows.now l) (arguments_at rows.now r)) }
     requires left { term_words * l + 2 + at rows.now (term_words * l + 1) ≤ length rows.now }
     requires right { term_words * r + 2 + at rows.now (term_words * r + 1) ≤ length rows.now }
-    ensures { Whatever (ToPlaceAll names.now entries.old lefts.old rights.old cells.old capacity m (arguments_at rows.now l) (arguments_at rows.now r))
-        (ArePlaced entries.new lefts.new rights.new cells.new capacity (arguments_at rows.now l) (arguments_at rows.now r) result) }
+    ensures placed { Whatever (ToPlaceAll names.now entries.old index.old.lefts.now index.old.rights.now index.old.cells.now capacity m (arguments_at rows.now l) (arguments_at rows.now r))
+        (ArePlaced entries.new index.new.lefts.now index.new.rights.now index.new.cells.now capacity (arguments_at rows.now l) (arguments_at rows.now r) result) }
+    ensures same_slices { SameSlices index.old index.new }
 {
     let first_left = TERM_WORDS * l + 2;
     let first_right = TERM_WORDS * r + 2;
@@ -57,9 +58,7 @@ fn place_all(
             count,
             rows[first_left + j],
             rows[first_right + j],
-            lefts,
-            rights,
-            cells,
+            index,
         )?;
         numbers[j] = p.entry;
         count = p.count;
@@ -103,13 +102,12 @@ pub fn visit(
     capacity: usize,
     m: usize,
     i: usize,
-    lefts: &mut [u32],
-    rights: &mut [u32],
-    cells: &mut [u32],
+    index: &mut Index,
 ) -> Result<Visited, Refusal>
-    requires { GivenTable (ToVisit rows.now roots.now names.now entries.old lefts.old rights.old cells.old capacity m i) }
-    ensures { Whatever (ToVisit rows.now roots.now names.now entries.old lefts.old rights.old cells.old capacity m i)
-        (IsVisited entries.new lefts.new rights.new cells.new capacity i result) }
+    requires { GivenTable (ToVisit rows.now roots.now names.now entries.old index.old.lefts.now index.old.rights.now index.old.cells.now capacity m i) }
+    ensures visited { Whatever (ToVisit rows.now roots.now names.now entries.old index.old.lefts.now index.old.rights.now index.old.cells.now capacity m i)
+        (IsVisited entries.new index.new.lefts.now index.new.rights.now index.new.cells.now capacity i result) }
+    ensures same_slices { SameSlices index.old index.new }
 {
     let e = layout::entry::entry_at(entries, i);
     if e.kind != 0 {
@@ -128,8 +126,6 @@ pub fn visit(
             count: m,
         });
     }
-    let args = place_all(
-        rows, names, entries, capacity, m, l, r, lefts, rights, cells,
-    )?;
+    let args = place_all(rows, names, entries, capacity, m, l, r, index)?;
     Ok(turn(rows, entries, i, l, e, args))
 }

@@ -1,10 +1,5 @@
 -- The parts of an area whose header is in order lie in it. Assumes nothing.
-use mathlib.Core.Path.{◌≡◌, ap, ap₂, ◌∙◌}
-use mathlib.Core.List.{List}
-use Prim.Native.Nat.{ℕ, ◌+◌, ◌*◌, ◌≤◌}
-use native.Mathlib.Omega.{arith}
-use lib.ListN.{length}
-use lib.Dec.{T}
+use Rattle.std.proofs.Common.{◌≡◌, ap, ap₂, ◌∙◌, List, ℕ, ◌+◌, ◌*◌, ◌≤◌, arith, length, T}
 use Rattle.model.specs.Limits.{Limits}
 use Rattle.model.specs.Area.{word_size, header_words, bindings_at, lines_at, entries_at, area_length, word, words_at}
 use Rattle.soundness.specs.sound.Sound.{loaded, header_ok}

@@ -1,12 +1,5 @@
 -- What is known of an area that was read: its header, its terms' rows and the rows of its entries. Assumes nothing.
-use mathlib.Core.Path.{◌≡◌, sym, ap, ◌∙◌}
-use mathlib.Core.List.{List}
-use Prim.Native.Nat.{ℕ, ◌+◌, ◌*◌, ◌-◌, ◌≤◌, ◌<◌}
-use native.Mathlib.Nat.{zero-add}
-use native.Mathlib.Omega.{arith}
-use lib.ListN.{length, take, drop, length-take}
-use lib.Seq.{take-take}
-use lib.Dec.{T}
+use Rattle.std.proofs.Common.{◌≡◌, sym, ap, ◌∙◌, List, ℕ, ◌+◌, ◌*◌, ◌-◌, ◌≤◌, ◌<◌, zero-add, arith, length, take, drop, length-take, take-take, T}
 use Rattle.model.specs.Limits.{Limits}
 use Rattle.model.specs.Table.{entry}
 use Rattle.model.specs.Step.{State}

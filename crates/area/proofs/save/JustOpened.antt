@@ -1,13 +1,8 @@
 -- Laying the header and the term rows into an area and clearing the rest gives the bytes of a state just opened. Assumes
 -- nothing.
-use mathlib.Core.Path.{◌≡◌, refl, ap, ◌∙◌}
-use mathlib.Core.List.{List, [], ◌∷◌, ◌++◌, map, append_assoc}
+use Rattle.std.proofs.Common.{◌≡◌, refl, ap, ◌∙◌, List, [], ◌∷◌, ◌++◌, map, append_assoc, ℕ, zero, suc, ◌+◌, ◌*◌, ◌-◌, ◌≤◌, zero-le, arith, length, drop, replicate, length-append, take_at, drop-drop, add-sub_of_le}
 use mathlib.Core.Option.{none}
-use Prim.Native.Nat.{ℕ, zero, suc, ◌+◌, ◌*◌, ◌-◌, ◌≤◌, zero-le}
-use native.Mathlib.Omega.{arith}
-use lib.ListN.{length, drop, replicate, length-append, length-replicate, replicate-append-replicate}
-use lib.Seq.{take_at, drop-drop}
-use native.Mathlib.Nat.{add-sub_of_le}
+use Rattle.std.proofs.Math.ListN.{length-replicate, replicate-append-replicate}
 use Rattle.model.specs.Limits.{Limits}
 use Rattle.model.specs.Lists.{concat_map, padded}
 use Rattle.model.specs.Term.{Node, Book}

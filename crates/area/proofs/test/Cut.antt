@@ -1,12 +1,5 @@
 -- The rows of an area's capacity, cut from a slice that has those of the largest. Assumes nothing.
-use mathlib.Core.Path.{◌≡◌, sym, ap, ◌∙◌}
-use mathlib.Core.List.{List, ◌++◌}
-use mathlib.Core.Bool.{false}
-use Prim.Native.Nat.{ℕ, ◌*◌, ◌≤◌}
-use native.Mathlib.Omega.{arith}
-use lib.ListN.{length, take, drop, length-append, take-append-drop}
-use lib.Seq.{take_at, length-take-le}
-use lib.Dec.{T}
+use Rattle.std.proofs.Common.{◌≡◌, sym, ap, ◌∙◌, List, ◌++◌, false, ℕ, ◌*◌, ◌≤◌, arith, length, take, drop, length-append, take-append-drop, take_at, length-take-le, T}
 use Rattle.leb128.specs.Laws.{are_bytes}
 use Rattle.model.specs.Limits.{Limits}
 use Rattle.model.specs.Area.{word_size, header_words, entry_row_words, area_length, word, sound}

@@ -1,10 +1,6 @@
 -- What the tests of a loaded state give to each other: rows in order hold terms that obey the rules, and with the terms' values
 -- known the table can be tested. Assumes nothing.
-use mathlib.Core.Path.{◌≡◌}
-use mathlib.Core.List.{List}
-use mathlib.Core.Bool.{Bool, true, false, ◌&&◌}
-use Prim.Native.Nat.{ℕ}
-use lib.Dec.{T}
+use Rattle.std.proofs.Common.{◌≡◌, List, Bool, true, false, ◌&&◌, ℕ, T}
 use Rattle.model.specs.Lists.{all}
 use Rattle.model.specs.Term.{acyclic}
 use Rattle.model.specs.Area.{distinct}

@@ -1,11 +1,5 @@
 -- A whole area: its bytes, the room that its state takes, and what the tests of its loaded words say of it. Assumes nothing.
-use mathlib.Core.Path.{◌≡◌, sym, ap, ◌∙◌}
-use mathlib.Core.List.{List, [], ◌∷◌}
-use mathlib.Core.Bool.{Bool, true}
-use Prim.Native.Nat.{ℕ, zero, suc, ◌<◌}
-use native.Mathlib.Omega.{arith}
-use lib.ListN.{get_or}
-use lib.Dec.{T, ltb, lt→ltb}
+use Rattle.std.proofs.Common.{Fits, w8, ◌≡◌, sym, ap, ◌∙◌, List, [], ◌∷◌, Bool, true, ℕ, zero, suc, arith, get_or, T, ltb, lt→ltb}
 use Rattle.leb128.specs.Laws.{are_bytes}
 use Rattle.model.specs.Limits.{Limits}
 use Rattle.model.specs.Term.{acyclic}
@@ -35,10 +29,10 @@ HeaderOf area h =
     (h.capacity ≡ word area 0) × (h.terms ≡ word area 1) × (h.entries ≡ word area 2) × (h.lines ≡ word area 3)
 
 -- numbers that each fit a byte are bytes
-pub are_bytes_lem : (xs : List ℕ) → ((i : ℕ) → get_or xs i 0 < 256) → T (are_bytes xs)
+pub are_bytes_lem : (xs : List ℕ) → ((i : ℕ) → Fits w8 (get_or xs i 0)) → T (are_bytes xs)
 unfolding are_bytes
 are_bytes_lem [] h = tt
-are_bytes_lem (x ∷ xs) h = and_both (ltb x 256) (are_bytes xs) (lt→ltb x 256 (h zero)) (are_bytes_lem xs (λ i. h (suc i)))
+are_bytes_lem (x ∷ xs) h = and_both (ltb x 256) (are_bytes xs) (lt→ltb x 256 (omega (arith, h zero))) (are_bytes_lem xs (λ i. h (suc i)))
 
 -- what passes all tests passes those of the rows
 rows_tested : (w : Loaded) → T (sound_loaded w) → T (rows_ok w)

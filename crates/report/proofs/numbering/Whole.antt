@@ -78,3 +78,8 @@ module _ {lines entries : List ℕ} {m : ℕ} where
           counted = rw (length-table_of entries m) h.counted;
           in_order = sym (h.ahead ∙ arguments-end (table_of entries m) (m - i) i (take n met) (omega (arith, counted-length h.counted)));
         }
+
+-- the same of two slices that are equal
+pub numbered_now : {es : Table} {lines met numbers met' numbers' : List ℕ} {n : ℕ} → Numbered es lines met numbers n → met' ≡ met → numbers' ≡ numbers
+    → Numbered es lines met' numbers' n
+numbered_now h p q = rw (p, q) h

@@ -1,26 +1,18 @@
 -- Building the index of a table: after i entries their names are indexed. Assumes nothing.
-use mathlib.Core.Path.{◌≡◌, refl, ap, ◌∙◌}
-use mathlib.Core.List.{List, [], ◌∷◌, ◌++◌}
-use Prim.Native.Nat.{ℕ, suc, ◌+◌, ◌*◌, ◌≤◌, ◌<◌}
-use native.Mathlib.Nat.{not-suc-le-zero}
-use native.Mathlib.Numerals.{add-one}
-use native.Mathlib.Omega.{arith}
-use lib.ListN.{length, take, drop, replicate}
-use lib.Seq.{take_all, take-suc, length-take-le}
+use Rattle.std.proofs.Common.{◌≡◌, ap, ◌∙◌, List, [], ◌∷◌, ◌++◌, ℕ, suc, ◌+◌, ◌*◌, ◌≤◌, ◌<◌, not-suc-le-zero, add-one, arith, length, take, drop, take_all, take-suc, length-take-le}
 use Rattle.model.specs.Term.{Book, Bindings, name}
 use Rattle.model.specs.Table.{Table, hole_at, entry}
 use Rattle.model.specs.Area.{entry_row_words}
 use Rattle.layout.specs.limits.Rows.{at}
-use Rattle.pairs.specs.Index.{buckets, Room, Indexed, Pushed}
+use Rattle.pairs.specs.Index.{Room, Indexed, Pushed}
 use Rattle.pairs.proofs.Rooms.{room_kept, room_fewer}
-use Rattle.pairs.proofs.Growth.{indexed-none}
 use Rattle.layout.specs.entry.Row.{row_of}
 use Rattle.layout.specs.declared.entry.Entry.{Entry as Row}
 use Rattle.soundness.specs.kinds.Sides.{SideNames}
 use Rattle.table.specs.place.Stands.{Whatever}
 use Rattle.table.proofs.place.Held.{held-row}
 use Rattle.table.proofs.place.Names.{names_more}
-use Rattle.table.proofs.visit.Sizes.{SameSizes, same-sizes, sizes_trans}
+use Rattle.table.proofs.visit.Sizes.{SameSizes, sizes_trans}
 use Rattle.table.proofs.visit.Turning.{row-left, row-right}
 use Rattle.table.specs.index.Indexing.{ToIndex, IsIndexed}
 
@@ -29,21 +21,23 @@ pub record IndexedTo (lefts rights cells : List ℕ) (i : ℕ) (b : Book) (β : 
   pub indexed : Indexed lefts rights cells i
   pub names : SideNames b β (take i es) lefts rights
 
--- What holds at the loop's head, whatever the cells were before their heads were cleared.
+-- What holds at the loop's head.
 pub record Indexing (names entries lefts₀ rights₀ cells₀ : List ℕ) (m : ℕ) (lefts rights cells : List ℕ) (i : ℕ) : Type 0 where
   pub sizes : SameSizes entries lefts₀ rights₀ cells₀ entries lefts rights cells
   pub within : i ≤ m
-  pub so_far : (cs : List ℕ) → length cells₀ ≡ length cs → Whatever (ToIndex names entries lefts₀ rights₀ cs m) (IndexedTo lefts rights cells i)
+  pub so_far : Whatever (ToIndex names entries lefts₀ rights₀ cells₀ m) (IndexedTo lefts rights cells i)
 
-pub indexing_none : (names entries lefts rights : List ℕ) (m : ℕ) {cells₀ : List ℕ} (cells : List ℕ)
-    → cells₀ ≡ replicate buckets 0 ++ drop buckets cells → Indexing names entries lefts rights cells₀ m lefts rights cells₀ 0
-indexing_none names entries lefts rights m {cells₀} cells e =
+-- no pairs yet
+pub indexing_none : {names entries lefts₀ rights₀ cells₀ : List ℕ} {m : ℕ} {lefts rights cells : List ℕ}
+    → Indexed lefts rights cells 0 → SameSizes entries lefts₀ rights₀ cells₀ entries lefts rights cells
+    → Indexing names entries lefts₀ rights₀ cells₀ m lefts rights cells 0
+indexing_none none sizes =
     record {
-      sizes = same-sizes entries lefts rights cells₀;
+      sizes = sizes;
       within = omega arith;
-      so_far = λ cs same b β es q.
+      so_far = λ b β es q.
           record {
-            indexed = indexed-none (room_kept q.room refl refl same) cells e;
+            indexed = none;
             names =
                 record {
                   left-term = λ j l. absurd (not-suc-le-zero l);
@@ -76,17 +70,16 @@ module _ {names entries lefts rights cells : List ℕ} {m : ℕ} {b : Book} {β 
 module _ {names entries lefts₀ rights₀ cells₀ : List ℕ} {m : ℕ} {lefts rights cells : List ℕ} {i : ℕ}
     (h : Indexing names entries lefts₀ rights₀ cells₀ m lefts rights cells i) where
   -- there is room for the next pair
-  pub next-room : {cs : List ℕ} → length cells₀ ≡ length cs → {b : Book} {β : Bindings} {es : Table} → ToIndex names entries lefts₀ rights₀ cs m b β es
+  pub next-room : {b : Book} {β : Bindings} {es : Table} → ToIndex names entries lefts₀ rights₀ cells₀ m b β es
       → i < m → Indexed lefts rights cells i × Room lefts rights cells (suc i)
-  next-room {cs} same q t =
-      let sizes = h.sizes in
-      ((h.so_far cs same _ _ _ q).indexed, room_kept (room_fewer t q.room) sizes.left_size sizes.right_size (sizes.cells_size ∙ same))
+  next-room q t =
+      let sizes = h.sizes in ((h.so_far _ _ _ q).indexed, room_kept (room_fewer t q.room) sizes.left_size sizes.right_size sizes.cells_size)
 
   -- one entry more
   module _ (t : i < m) (e : Row) (read : row_of e ≡ take entry_row_words (drop (entry_row_words * i) entries))
       {lefts' rights' cells' : List ℕ} {k : ℕ} (pushed : Pushed lefts rights lefts' rights' cells' i (at names e.left) (at names e.right) k) where
-    indexed-more : (cs : List ℕ) → length cells₀ ≡ length cs → Whatever (ToIndex names entries lefts₀ rights₀ cs m) (IndexedTo lefts' rights' cells' (i + 1))
-    indexed-more cs same b β es q =
+    indexed-more : Whatever (ToIndex names entries lefts₀ rights₀ cells₀ m) (IndexedTo lefts' rights' cells' (i + 1))
+    indexed-more b β es q =
         let l : i < length es = here q t e read in
         let long : length (take i es) ≡ i = length-take-le i es (omega arith) in
         let more : take (i + 1) es ≡ take i es ++ entry es i ∷ [] = rw add-one (take-suc es i (hole_at 0 0 0) l) in
@@ -94,8 +87,8 @@ module _ {names entries lefts₀ rights₀ cells₀ : List ℕ} {m : ℕ} {lefts
         q.known.is_name _ (left_lt q t e read) ∙ ap (name b β) (left-same q t e read) in
         let right : at names e.right ≡ name b β (entry es i).right =
         q.known.is_name _ (right_lt q t e read) ∙ ap (name b β) (right-same q t e read) in
-        let room = (next-room same q t).1 in
-        let new = names_more (h.so_far cs same b β es q).names (entry es i) (q.left-term i l) (q.right-term i l) (rw long room.lefts_fit) (rw long room.rights_fit) in
+        let room = (next-room q t).1 in
+        let new = names_more (h.so_far b β es q).names (entry es i) (q.left-term i l) (q.right-term i l) (rw long room.lefts_fit) (rw long room.rights_fit) in
         record {
           indexed = rw add-one pushed.indexed;
           names = rw (more, pushed.left, pushed.right, left, right) (rw long at new);
@@ -106,8 +99,8 @@ module _ {names entries lefts₀ rights₀ cells₀ : List ℕ} {m : ℕ} {lefts
     indexing_more sizes = record { sizes = sizes_trans h.sizes sizes; within = omega arith; so_far = indexed-more }
 
   -- all entries are indexed
-  pub indexing_all : {cs : List ℕ} → length cells₀ ≡ length cs → m ≤ i → Whatever (ToIndex names entries lefts₀ rights₀ cs m) (IsIndexed lefts rights cells m)
-  indexing_all {cs} same l b β es q =
-      let done = h.so_far cs same b β es q in
+  pub indexing_all : m ≤ i → Whatever (ToIndex names entries lefts₀ rights₀ cells₀ m) (IsIndexed lefts rights cells m)
+  indexing_all l b β es q =
+      let done = h.so_far b β es q in
       let end : i ≡ m = omega (arith, h.within) in
       record { indexed = rw end at done.indexed; names = rw (take_all i es (omega (arith, q.count))) at done.names }

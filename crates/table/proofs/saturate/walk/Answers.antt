@@ -1,19 +1,18 @@
 -- `saturate::walk` meets its contract: each visit is one step of the walk. Assumes nothing.
-use Rattle.std.proofs.Common.{◌≡◌, ◌+◌, cond, ◌&&◌, ltb, arith}
+use Rattle.std.proofs.Common.{rules, ◌≡◌, ◌+◌, cond, ◌&&◌, ltb, arith, lt-ltb, le-ltb}
 use mathlib.Core.Bool.{and-false}
-use borrow.Author.Tests.{lt-ltb, le-ltb}
 use Rattle.std.proofs.lemmas.Result.{err_from_is_err_and}
 use Rattle.table.proofs.saturate.Walking.{walking_none, walking_full, walking_more, walking_all}
 use Rattle.table.proofs.saturate.walk.Goals as goal
 use Rattle.table.proofs.saturate.walk.Goals.{then-v+then-i-m, else-v, else-v-via-then-v+else-i-m, else-v-via-else-v}
 
 pub loop-i-init : goal.loop-i-init
-loop-i-init c = walking_none _ _ _ _ _ _ _ _ _
+loop-i-init c = record { walking = walking_none _ _ _ _ _ _ _ _ _; same = search rules }
 
-pub returns-in_err-v : goal.returns-in_err-v
-returns-in_err-v c =
+pub returns-in_err-v-clause-walked : goal.returns-in_err-v-clause-walked
+returns-in_err-v-clause-walked c =
     let e = err_from_is_err_and c.from_residual.result c.from_residual.ensures.1 in
-    rw (e.1, e.2) (walking_full c.loop-i.invariant c.loop-i-test.true c.in_err-v.ensures)
+    rw (e.1, e.2) (walking_full c.loop-i.invariant.walking c.loop-i-test.true c.in_err-v.ensures.visited)
 
 pub loop-i-preserved : goal.loop-i-preserved
 loop-i-preserved c =
@@ -26,8 +25,11 @@ loop-i-preserved c =
             | else-v-via-else-v w' ↦ rw (w.w-is, w'.if-v.false) (omega arith)
           ]
     ] in
-    walking_more c.loop-i.invariant c.loop-i-test.true c.in_ok-v.ensures raised
-    (record { entries_size = c.visit.auto.entries; left_size = c.visit.auto.lefts; right_size = c.visit.auto.rights; cells_size = c.visit.auto.cells })
+    record {
+      walking = walking_more c.loop-i.invariant.walking c.loop-i-test.true c.in_ok-v.ensures.visited raised
+          (record { entries_size = c.visit.auto.entries; left_size = c.visit.ensures.same_slices.lefts_long; right_size = c.visit.ensures.same_slices.rights_long; cells_size = c.visit.ensures.same_slices.cells_long });
+      same = search rules;
+    }
 
-pub returns : goal.returns
-returns c = walking_all c.loop-i.invariant c.loop-i-test.false
+pub returns-clause-walked : goal.returns-clause-walked
+returns-clause-walked c = walking_all c.loop-i.invariant.walking c.loop-i-test.false

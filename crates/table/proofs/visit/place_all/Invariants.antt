@@ -1,8 +1,12 @@
 -- After `j` pairs the slices hold the table with those.
 use Rattle.table.specs.visit.Visiting.{arguments_at}
 use Rattle.table.proofs.visit.PlacingAll.{PlacingAll}
+use Rattle.pairs.specs.Lent.{SameSlices}
 use Rattle.table.proofs.visit.place_all.Given as goal
 
 abbrev pub invariant-loop-j : goal.invariant-loop-j
 invariant-loop-j l =
-    PlacingAll l.names l.fn.entries l.fn.lefts l.fn.rights l.fn.cells l.capacity l.m (arguments_at l.rows l.l) (arguments_at l.rows l.r) l.entries l.lefts l.rights l.cells l.numbers l.count l.j
+    record {
+      placing : PlacingAll l.names l.fn.entries l.fn.index.lefts.now l.fn.index.rights.now l.fn.index.cells.now l.capacity l.m (arguments_at l.rows l.l) (arguments_at l.rows l.r) l.entries l.index.lefts.now l.index.rights.now l.index.cells.now l.numbers l.count l.j;
+      same : SameSlices l.fn.index l.index;
+    }

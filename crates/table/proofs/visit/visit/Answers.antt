@@ -8,8 +8,8 @@ use Rattle.table.proofs.visit.Visiting.{left_lt, right_lt, left_end, right_end, 
 use Rattle.table.proofs.visit.visit.Goals as goal
 
 -- a common entry
-pub returns-then-e-ne0 : goal.returns-then-e-ne0
-returns-then-e-ne0 c b β es q = visit-common q _ c.entry_at-e.ensures c.if-e-ne0.true
+pub returns-then-e-ne0-clause-visited : goal.returns-then-e-ne0-clause-visited
+returns-then-e-ne0-clause-visited c b β es q = visit-common q _ c.entry_at-e.ensures c.if-e-ne0.true
 
 -- the sides are terms, and so is what they stand for
 pub bounds-roots-left : goal.bounds-roots-left
@@ -25,8 +25,8 @@ pub alike-requires-clause-right : goal.alike-requires-clause-right
 alike-requires-clause-right c = right_end c.requires.known _ c.entry_at-e.ensures
 
 -- roots that are not alike
-pub returns-then-not-alike : goal.returns-then-not-alike
-returns-then-not-alike c b β es q = visit_unlike q _ c.entry_at-e.ensures (sym c.alike.ensures ∙ c.if-not-alike.true)
+pub returns-then-not-alike-clause-visited : goal.returns-then-not-alike-clause-visited
+returns-then-not-alike-clause-visited c b β es q = visit_unlike q _ c.entry_at-e.ensures (sym c.alike.ensures ∙ c.if-not-alike.true)
 
 -- roots that are alike
 pub place_all-requires-clause-given : goal.place_all-requires-clause-given
@@ -42,15 +42,15 @@ pub place_all-requires-clause-right : goal.place_all-requires-clause-right
 place_all-requires-clause-right c = right_end c.requires.known _ c.entry_at-e.ensures
 
 -- their arguments need entries beyond the capacity
-pub returns-in_err-args : goal.returns-in_err-args
-returns-in_err-args c =
+pub returns-in_err-args-clause-visited : goal.returns-in_err-args-clause-visited
+returns-in_err-args-clause-visited c =
     let read = c.entry_at-e.ensures in
     let same = sym c.alike.ensures ∙ c.if-not-alike.false in
     let e = err_from_is_err_and c.from_residual.result c.from_residual.ensures.1 in
     rw (e.1, e.2)
     (λ b β es q.
     let ready = turnable q _ read same in
-    visit_full q _ read same c.if-e-ne0.false (turn_full ready (c.in_err-args.ensures b β es (to_place-all ready))))
+    visit_full q _ read same c.if-e-ne0.false (turn_full ready (c.in_err-args.ensures.placed b β es (to_place-all ready))))
 
 -- they are placed
 pub turn-requires : goal.turn-requires
@@ -63,10 +63,10 @@ turn-requires c =
       entry_row = omega (arith, q.there, few-entries q.stands, q.stands.long, c.place_all.auto.entries);
     }
 
-pub returns : goal.returns
-returns c b β es q =
+pub returns-clause-visited : goal.returns-clause-visited
+returns-clause-visited c b β es q =
     let read = c.entry_at-e.ensures in
     let same = sym c.alike.ensures ∙ c.if-not-alike.false in
     let ready = turnable q _ read same in
     visit-turned q _ read same c.if-e-ne0.false c.turn.ensures.answer
-    (turn-reaches ready (c.in_ok-args.ensures b β es (to_place-all ready)) c.turn.ensures.put c.turn.auto.entries)
+    (turn-reaches ready (c.in_ok-args.ensures.placed b β es (to_place-all ready)) c.turn.ensures.put c.turn.auto.entries)

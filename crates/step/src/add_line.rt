@@ -42,9 +42,7 @@ pub fn add_line(
     }
     let capacity = h.capacity as usize;
     let m = h.entries as usize;
-    let g = crate::grow::grow(
-        rows, roots, names, entries, capacity, m, l, r, index,
-    )?;
+    let g = crate::grow::grow(rows, roots, names, entries, capacity, m, l, r, index)?;
     lines[k] = g.entry;
     Ok(Stepped {
         accepted: Accepted::Added { entry: g.entry },

@@ -80,7 +80,5 @@ pub fn bind(
     early_refusal(rows, bindings, h.terms, index.cells, list, v, t)?;
     let i = v as usize;
     bindings[i] = t + 1;
-    crate::rebuild::rebuild(
-        h, rows, bindings, list, roots, names, entries, index,
-    )
+    crate::rebuild::rebuild(h, rows, bindings, list, roots, names, entries, index)
 }

@@ -28,9 +28,7 @@ pub fn grow(
 {
     table::index::index(names, entries, m, index);
     let p = table::place::place(names, entries, capacity, m, l, r, index)?;
-    let w = table::saturate::walk(
-        rows, roots, names, entries, capacity, p.count, index,
-    )?;
+    let w = table::saturate::walk(rows, roots, names, entries, capacity, p.count, index)?;
     Ok(Placed {
         entry: p.entry,
         count: w.count,

@@ -27,7 +27,7 @@ pub fn rebuild(
     ensures same_slices { SameSlices index.old index.new }
 {
     let n = h.terms;
-    if !values::evaluate::name_terms(rows, bindings, n, list, roots, names, index.lefts, index.rights, index.cells) {
+    if !values::evaluate::name_terms(rows, bindings, n, list, roots, names, index) {
         return Err(Refusal::Occurs);
     }
     let m = h.entries as usize;

@@ -26,9 +26,7 @@ pub fn walk_and_settle(
 {
     let capacity = h.capacity as usize;
     let m = h.entries as usize;
-    let w = table::saturate::walk(
-        rows, roots, names, entries, capacity, m, index,
-    )?;
+    let w = table::saturate::walk(rows, roots, names, entries, capacity, m, index)?;
     let count = w.count;
     table::same_as::settle(entries, count, index);
     Ok(Stepped {

@@ -1,3 +1,4 @@
 pub mod OfKind
+pub mod Stored
 pub mod Numbers
 pub mod Inverting

@@ -4,7 +4,7 @@
 --
 -- list     the terms of one kind, a list read from bytes, and the inverse of a list
 -- moving   term rows moved to new numbers
--- storing  the slices that are lent for both calls
+-- storing  the slices that are lent for both calls, and the numbers that storing answers
 
 pub mod list
 pub mod moving

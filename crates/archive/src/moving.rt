@@ -14,43 +14,30 @@ ghost use Rattle.book.specs.decode.Rows.{book_rows};
 ghost use Rattle.book.specs.parse.Parts.{node_row};
 ghost use Rattle.archive.specs.moving.Moving.{RowMoves, RowsMove, moved_book};
 
-// What moving finds: whether each argument is then lower than its term (rule 5), and how many bytes the numbers take.
+// What moving finds: whether each argument is then lower than its term (rule 5), and how many bytes the numbers take. Both hold
+// of every book that is moved, so this is no refusal beside a value.
 #[derive(Clone, Copy)]
 pub struct Moved {
     pub lower: bool,
     pub bytes: usize,
 }
 
-// Moves `count` arguments from word `start` of the rows to word `place`, each renumbered. Lower is here: below `limit`.
-fn move_arguments(
-    rows: &[u32],
-    start: usize,
-    count: usize,
-    target: &[u32],
-    moved: &mut [u32],
-    place: usize,
-    limit: usize,
-) -> Moved
-    requires { (start + count ≤ length rows.now) × (place + count ≤ length moved.old)
-        × ((j : ℕ) → j < count → at rows.now (start + j) < length target.now) }
-    ensures lower { result.lower ≡ all (λ a. ltb a limit) (map (at target.now) (take count (drop start rows.now))) }
-    ensures bytes { result.bytes ≡ length (number_bytes (map (at target.now) (take count (drop start rows.now)))) }
-    ensures moved { moved.new ≡ sets moved.old place (map (at target.now) (take count (drop start rows.now))) }
+// Moves arguments, each renumbered. Lower is here: below `limit`.
+fn move_arguments(arguments: &[u32], target: &[u32], moved: &mut [u32], limit: usize) -> Moved
+    requires { (length arguments.now ≡ length moved.old) × ((j : ℕ) → j < length arguments.now → at arguments.now j < length target.now) }
+    ensures lower { result.lower ≡ all (λ a. ltb a limit) (map (at target.now) arguments.now) }
+    ensures bytes { result.bytes ≡ length (number_bytes (map (at target.now) arguments.now)) }
+    ensures moved { moved.new ≡ map (at target.now) arguments.now }
 {
     let mut lower = true;
-    let mut bytes: usize = 0;
-    let mut j: usize = 0;
-    while j < count {
-        let from = start + j;
-        let a = rows[from] as usize;
-        let b = target[a];
-        let to = place + j;
-        moved[to] = b;
+    let mut bytes = 0;
+    for (j, a) in arguments.iter().enumerate() {
+        let b = target[*a as usize];
+        moved[j] = b;
         bytes += leb128::length_of(b);
         if limit <= b as usize {
             lower = false;
         }
-        j += 1;
     }
     Moved { lower, bytes }
 }
@@ -70,43 +57,35 @@ fn move_term(rows: &[u32], from: usize, target: &[u32], moved: &mut [u32], i: us
             bytes: 1,
         };
     }
+    let count = rows[start + 1];
     let place = layout::limits::TERM_WORDS * i;
-    let second = start + 1;
-    let count = rows[second];
     moved[place] = symbol;
-    let behind = place + 1;
-    moved[behind] = count;
-    let arguments = move_arguments(rows, start + 2, count as usize, target, moved, place + 2, i);
+    moved[place + 1] = count;
+    let first = start + 2;
+    let to = place + 2;
+    let n = count as usize;
+    let arguments = move_arguments(&rows[first..first + n], target, &mut moved[to..to + n], i);
     Moved {
         lower: arguments.lower,
         bytes: leb128::length_of(symbol) + leb128::length_of(count) + arguments.bytes,
     }
 }
 
-// Moves the book in the first `n` rows to `moved`, all zero before: its term i is the term `source[i]` of the rows, with `target[a]` for each
-// argument a. The bytes are those of the whole book.
-pub fn move_terms(
-    rows: &[u32],
-    n: usize,
-    source: &[u32],
-    target: &[u32],
-    moved: &mut [u32],
-) -> Moved
-    requires { RowsMove rows.now n source.now target.now × (term_words * n ≤ length moved.old) × (moved.old ≡ replicate (length moved.old) 0) × (n ≤ 4294967295) }
-    ensures lower { result.lower ≡ arguments_lower (moved_book rows.now n source.now target.now) }
-    ensures bytes { result.bytes ≡ length (book_bytes (moved_book rows.now n source.now target.now)) }
-    ensures moved { moved.new ≡ book_rows (length moved.old) (moved_book rows.now n source.now target.now) }
+// Moves the book in the first rows, as many terms as `source` has, to `moved`, all zero before: its term i is the term `source[i]` of the
+// rows, with `target[a]` for each argument a. The bytes are those of the whole book.
+pub fn move_terms(rows: &[u32], source: &[u32], target: &[u32], moved: &mut [u32]) -> Moved
+    requires { RowsMove rows.now (length source.now) source.now target.now × (term_words * length source.now ≤ length moved.old)
+        × (moved.old ≡ replicate (length moved.old) 0) × (length source.now ≤ 4294967295) }
+    ensures lower { result.lower ≡ arguments_lower (moved_book rows.now (length source.now) source.now target.now) }
+    ensures bytes { result.bytes ≡ length (book_bytes (moved_book rows.now (length source.now) source.now target.now)) }
+    ensures moved { moved.new ≡ book_rows (length moved.old) (moved_book rows.now (length source.now) source.now target.now) }
 {
     let mut lower = true;
-    let mut bytes = leb128::length_of(n as u32);
-    let mut i: usize = 0;
-    while i < n {
-        let term = move_term(rows, source[i] as usize, target, moved, i);
+    let mut bytes = leb128::length_of(source.len() as u32);
+    for (i, from) in source.iter().enumerate() {
+        let term = move_term(rows, *from as usize, target, moved, i);
+        lower &= term.lower;
         bytes += term.bytes;
-        if !term.lower {
-            lower = false;
-        }
-        i += 1;
     }
     Moved { lower, bytes }
 }

@@ -1,5 +1,6 @@
 // How far a book's bytes are read: up to the part that is refused (specs/unread/Unread.antt; docs/SPEC.md, "Sessions"). It is no part of what
-// `decode` answers: each opening would have to keep where its term begins, measured at 6 % of its time.
+// `decode` answers: each opening would have to keep where its term begins, measured at 6 % of its time (docs/DECISIONS.md). So
+// `terms_read_to` has a loop of its own beside `decode::read_terms`.
 
 ghost use Rattle.std.specs.Prelude.{◌≡◌, [], ◌*◌, ◌≤◌, length, drop, replicate};
 ghost use Rattle.model.specs.Area.{term_words};
@@ -7,7 +8,7 @@ ghost use Rattle.theory.specs.Modest.{Modest};
 ghost use Rattle.layout.specs.limits.Limits.{limits_of};
 ghost use Rattle.book.specs.unread.Unread.{unread_terms, read_to};
 
-use crate::parse::{Advance, Part};
+use refusal::Refusal;
 
 // The position of the first of the `count` terms that is refused, the one behind the last where none is.
 fn terms_read_to(bytes: &[u8], at: usize, count: u32, rows: &mut [u32]) -> usize
@@ -16,13 +17,11 @@ fn terms_read_to(bytes: &[u8], at: usize, count: u32, rows: &mut [u32]) -> usize
     ensures within { result ≤ length bytes.now }
 {
     let mut next = at;
-    let mut t = 0;
-    while t < count {
+    for t in 0..count {
         match crate::reader::read_term(bytes, next, t, rows) {
-            Advance::Next(after) => next = after,
-            Advance::Refused(n) => return next,
+            Ok(after) => next = after,
+            Err(_) => return next,
         }
-        t += 1;
     }
     next
 }
@@ -32,8 +31,8 @@ pub fn read_to(lim: layout::limits::Limits, bytes: &[u8], rows: &mut [u32]) -> u
     requires { Modest (limits_of lim) × (rows.old ≡ replicate (term_words * lim.terms) 0) }
     ensures { result ≡ read_to (limits_of lim) bytes.now }
 {
-    match crate::parse::read_below(bytes, 0, lim.terms as u32 + 1, 4) {
-        Part::Refused(n) => 0,
-        Part::Value { value, next } => terms_read_to(bytes, next, value, rows),
+    match crate::parse::read_below(bytes, 0, lim.terms as u32 + 1, Refusal::OutOfRange) {
+        Ok(terms) => terms_read_to(bytes, terms.next, terms.value, rows),
+        Err(_) => 0,
     }
 }

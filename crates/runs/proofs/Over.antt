@@ -1,4 +1,4 @@
--- Bytes laid over a list: nothing, more behind, the length, at the front, and a number that is written. Assumes nothing.
+-- Bytes laid over a list: at the front, the length, more behind, nothing, and a number that is written. Assumes nothing.
 use Rattle.std.proofs.Common.{◌≡◌, refl, sym, ap, ◌∙◌, List, [], ◌∷◌, ◌++◌, append_assoc, append-nil, ℕ, ◌+◌, ◌-◌, ◌≤◌, ◌<◌, add-zero, zero-add, add_assoc, add-one, arith, length, take, drop, set, length-append, length-drop, take-append-drop, drop_of_length-le, length-take-le, take_at, take_all, drop-drop}
 use Rattle.std.proofs.Math.Seq.{set_split}
 use Rattle.leb128.specs.Number.{max_groups, max_number, write, write_within}
@@ -7,11 +7,6 @@ use Rattle.theory.proofs.Lists.Rows.{drop_behind}
 use Rattle.runs.specs.Runs.{over_at}
 
 module _ (out : List ℕ) where
-  -- no bytes change nothing
-  pub over_none : (at : ℕ) → over_at out at [] ≡ out
-  unfolding over_at
-  over_none at = rw add-zero (take-append-drop at out)
-
   -- at the front nothing is kept before the bytes
   pub over_front : (bytes : List ℕ) → over_at out 0 bytes ≡ bytes ++ drop (length bytes) out
   unfolding over_at
@@ -40,6 +35,11 @@ module _ (out : List ℕ) where
           ← add_assoc,
         )
         (simp append_assoc)
+
+  -- no bytes change nothing
+  pub over_none : (at : ℕ) → over_at out at [] ≡ out
+  unfolding over_at
+  over_none at = rw add-zero (take-append-drop at out)
 
 -- a store is one number laid
 set-over : (out : List ℕ) (at x : ℕ) → at < length out → set out at x ≡ over_at out at (x ∷ [])

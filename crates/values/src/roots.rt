@@ -11,16 +11,15 @@ ghost use Rattle.values.specs.roots.Flags.{flagged, any, occurs_step};
 use crate::term;
 
 // What term `t` stands for, where `roots` says it of the term that it may be bound to.
+#[tactic(auto, unfolding(model::specs::Term::deref_step))]
 fn root_of(rows: &[u32], bindings: &[u32], roots: &[u32], t: u32) -> u32
     requires { Readable rows.now bindings.now t (length roots.now) }
     ensures { result ≡ deref_step (at roots.now) t (node_of rows.now t) (binding_of bindings.now t) }
 {
-    if term::symbol(rows, t) != 0 {
-        return t;
-    }
-    match term::bound(bindings, t) {
-        Some(u) => roots[u as usize],
-        None => t,
+    match (term::arguments(rows, t), term::bound(bindings, t)) {
+        (Some(_), _) => t,
+        (None, Some(u)) => roots[u as usize],
+        (None, None) => t,
     }
 }
 
@@ -29,8 +28,8 @@ pub fn roots(rows: &[u32], bindings: &[u32], n: u32, list: &[u32], roots: &mut [
     requires { Listed rows.now bindings.now list.now n × (n ≤ length roots.old) }
     ensures { roots.new ≡ map (deref (book_of rows.now n) (bound_of bindings.now n) n) (from 0 n) ++ drop n roots.old }
 {
-    for t in &list[..n as usize] {
-        roots[*t as usize] = root_of(rows, bindings, roots, *t);
+    for &t in &list[..n as usize] {
+        roots[t as usize] = root_of(rows, bindings, roots, t);
     }
 }
 
@@ -39,25 +38,24 @@ fn any_flagged(args: &[u32], flags: &[u32]) -> bool
     requires { (j : ℕ) → j < length args.now → at args.now j < length flags.now }
     ensures { result ≡ any (flagged flags.now) args.now }
 {
-    args.iter().any(|a| flags[*a as usize] != 0)
+    args.iter().any(|&a| flags[a as usize] != 0)
 }
 
 // Whether `v` occurs in the value of term `t`, where `flags` says it of the terms one step down.
+#[tactic(auto, unfolding(crate::specs::roots::Flags::occurs_step, crate::specs::roots::Flags::flagged))]
 fn occurs_step(rows: &[u32], bindings: &[u32], flags: &[u32], v: u32, t: u32) -> bool
     requires { Readable rows.now bindings.now t (length flags.now) }
     ensures { result ≡ occurs_step (flagged flags.now) v t (node_of rows.now t) (binding_of bindings.now t) }
 {
-    if term::symbol(rows, t) != 0 {
-        return any_flagged(term::arguments(rows, t), flags);
-    }
-    match term::bound(bindings, t) {
-        Some(u) => flags[u as usize] != 0,
-        None => v == t,
+    match (term::arguments(rows, t), term::bound(bindings, t)) {
+        (Some(args), _) => any_flagged(args, flags),
+        (None, Some(u)) => flags[u as usize] != 0,
+        (None, None) => v == t,
     }
 }
 
-// Whether the variable `v` occurs in the value of term `t`: flags along the list, up to that term's own. `flags` is scratch of words,
-// so a flag is a word, 1 or 0.
+// Whether the variable `v` occurs in the value of term `t`: flags along the list, up to that term's own. A flag is a word, 1 or 0,
+// since `flags` is lent scratch of words.
 pub fn occurs_in(
     rows: &[u32],
     bindings: &[u32],
@@ -71,12 +69,12 @@ pub fn occurs_in(
     requires t_lt_n { t < n }
     ensures { result ≡ occurs v (val (book_of rows.now n) (bound_of bindings.now n) t) }
 {
-    for u in &list[..n as usize] {
-        let stands = occurs_step(rows, bindings, flags, v, *u);
-        if *u == t {
+    for &u in &list[..n as usize] {
+        let stands = occurs_step(rows, bindings, flags, v, u);
+        if u == t {
             return stands;
         }
-        flags[*u as usize] = u32::from(stands);
+        flags[u as usize] = u32::from(stands);
     }
     flags[t as usize] != 0
 }

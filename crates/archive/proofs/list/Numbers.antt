@@ -1,17 +1,18 @@
 -- The numbers of a list read one after the other. Assumes nothing.
-use mathlib.Core.Path.{◌≡◌, refl, ap, ◌∙◌}
+use mathlib.Core.Path.{◌≡◌, refl, sym, ap, ◌∙◌}
 use mathlib.Core.List.{List, [], ◌∷◌, ◌++◌}
-use mathlib.Core.Bool.{Bool, true, false, ◌&&◌, and-true}
+use mathlib.Core.Bool.{Bool, true, false, not, ◌&&◌, ◌||◌}
 use Prim.Native.Nat.{ℕ, zero, suc, ◌+◌, ◌-◌, ◌≤◌, ◌<◌}
 use native.Mathlib.Nat.{zero-add, suc-add}
 use native.Mathlib.Omega.{arith}
 use lib.ListN.{length, set, take, drop, length-set}
-use lib.Seq.{take-suc-set}
-use lib.Dec.{ltb}
+use lib.Seq.{take-suc-set, take_all}
+use lib.Dec.{ltb, leb}
+use borrow.Author.Tests.{ltb-true, ltb-false, le-leb, lt-leb, not-true, not-false}
+use Rattle.std.specs.List.{list_any}
 use Rattle.model.specs.Lists.{all}
 use Rattle.model.specs.BookBytes.{Parsed, parsed, unparsed, and_then, need, parse_number}
 use Rattle.model.specs.Archive.{parse_numbers}
-use Rattle.theory.proofs.Lists.Laws.{all_append}
 use Rattle.book.proofs.decode.Whole.{left-none, left_some}
 use Rattle.archive.specs.list.Listed.{parse_named}
 
@@ -47,58 +48,59 @@ numbers_split (suc i) k bytes = rw suc-add (go (parse_number bytes) (numbers_spl
     go (unparsed n) h = refl
     go (parsed x mid) h = rw (h mid) (behind x (parse_numbers i mid))
 
--- The first i of n numbers are read, and whether each of them names one of n terms is known.
-pub record Read (list : List ℕ) (n : ℕ) (listed : List ℕ) (next i : ℕ) (named : Bool) : Type 0 where
-  pub few : i ≤ n
-  pub long : n ≤ length listed
+-- A number of no term is among some where they are not all below n.
+any-all : (n : ℕ) (xs : List ℕ) → list_any (λ t. leb n t) xs ≡ not (all (λ t. ltb t n) xs)
+unfolding all
+any-all n [] = refl
+any-all n (x ∷ xs) = go (ltb x n) refl (any-all n xs)
+  where
+    go : (b : Bool) → ltb x n ≡ b → list_any (λ t. leb n t) xs ≡ not (all (λ t. ltb t n) xs)
+        → leb n x || list_any (λ t. leb n t) xs ≡ not (b && all (λ t. ltb t n) xs)
+    go true e h = rw (lt-leb n x (ltb-true x n e)) h
+    go false e h = rw (le-leb n x (ltb-false x n e))
+
+-- The first i of n numbers are read.
+pub record Read (list : List ℕ) (n : ℕ) (listed : List ℕ) (next i : ℕ) : Type 0 where
+  pub long : length listed ≡ n
   pub numbers : parse_numbers i list ≡ parsed (take i listed) (drop next list)
-  pub all_named : named ≡ all (λ t. ltb t n) (take i listed)
 
 module _ {list : List ℕ} {n : ℕ} where
-  pub read_none : {listed : List ℕ} → n ≤ length listed → Read list n listed 0 0 true
-  unfolding parse_numbers all
-  read_none l = record { few = omega arith; long = l; numbers = refl; all_named = refl }
+  pub read_none : {listed : List ℕ} → length listed ≡ n → Read list n listed 0 0
+  unfolding parse_numbers
+  read_none l = record { long = l; numbers = refl }
 
-  module _ {listed : List ℕ} {next i : ℕ} {named : Bool} (r : Read list n listed next i named) (l : i < n) where
-    -- one number more
-    pub read_more : (x after : ℕ) → parse_number (drop next list) ≡ parsed x (drop after list)
-        → (b : Bool) → b ≡ named && ltb x n → Read list n (set listed i x) after (i + 1) b
-    unfolding parse_numbers and_then all
-    read_more x after e b f =
-        let there : i < length listed = omega (arith, r.long) in
-        let grown : take (i + 1) (set listed i x) ≡ take i listed ++ x ∷ [] =
-        (let e : i + 1 ≡ suc i = omega arith in rw e (take-suc-set listed i x there)) in
-        record {
-          few = omega arith;
-          long = rw length-set r.long;
-          numbers = rw (numbers_split i 1 list, r.numbers, e, grown);
-          all_named = rw (grown, all_append (λ t. ltb t n) (take i listed) (x ∷ []), ← r.all_named) (rw and-true f);
-        }
+  module _ {listed : List ℕ} {next i : ℕ} (r : Read list n listed next i) where
+    module _ (l : i < n) where
+      -- one number more
+      pub read_more : (x after : ℕ) → parse_number (drop next list) ≡ parsed x (drop after list) → Read list n (set listed i x) after (i + 1)
+      unfolding parse_numbers and_then
+      read_more x after e =
+          let there : i < length listed = omega (arith, r.long) in
+          let grown : take (i + 1) (set listed i x) ≡ take i listed ++ x ∷ [] =
+          (let e : i + 1 ≡ suc i = omega arith in rw e (take-suc-set listed i x there)) in
+          record { long = rw length-set r.long; numbers = rw (numbers_split i 1 list, r.numbers, e, grown) }
 
-    -- one that is none
-    pub read-refused : (k : ℕ) → parse_number (drop next list) ≡ unparsed k → unparsed k ≡ parse_named n list
-    unfolding parse_numbers and_then parse_named
-    read-refused k e =
-        let s : n ≡ i + suc (n - i - 1) = omega arith in
-        let none : parse_numbers n list ≡ unparsed k = ap (λ m. parse_numbers m list) s ∙ rw (numbers_split i (suc (n - i - 1)) list, r.numbers, e) in
-        rw none
+      -- one that is none
+      pub read-refused : (k : ℕ) → parse_number (drop next list) ≡ unparsed k → unparsed k ≡ parse_named n list
+      unfolding parse_numbers and_then parse_named
+      read-refused k e =
+          let s : n ≡ i + suc (n - i - 1) = omega arith in
+          let none : parse_numbers n list ≡ unparsed k = ap (λ m. parse_numbers m list) s ∙ rw (numbers_split i (suc (n - i - 1)) list, r.numbers, e) in
+          rw none
 
-  -- all of them
-  module _ {listed : List ℕ} {next i : ℕ} {named : Bool} (r : Read list n listed next i named) (l : n ≤ i) where
-    whole : parse_numbers n list ≡ parsed (take n listed) (drop next list)
-    whole = let e : i ≡ n = omega (arith, r.few) in rw (← e) r.numbers
+    -- all of them
+    module _ (e : i ≡ n) where
+      whole : parse_numbers n list ≡ parsed listed (drop next list)
+      whole = rw (e, take_all n listed (omega (arith, r.long))) at r.numbers
 
-    all_whole : named ≡ all (λ t. ltb t n) (take n listed)
-    all_whole = let e : i ≡ n = omega (arith, r.few) in r.all_named ∙ ap (λ k. all (λ t. ltb t n) (take k listed)) e
+      pub read_left : next < length list → unparsed 3 ≡ parse_named n list
+      unfolding and_then need parse_named
+      read_left h = rw (whole, left_some list next h)
 
-    pub read_left : next < length list → unparsed 3 ≡ parse_named n list
-    unfolding and_then need parse_named
-    read_left h = rw (whole, left_some list next h)
+      pub read_unnamed : length list ≤ next → true ≡ list_any (λ t. leb n t) listed → unparsed 8 ≡ parse_named n list
+      unfolding and_then need parse_named
+      read_unnamed h f = rw (whole, left-none list next h, not-true _ (sym (f ∙ any-all n listed)))
 
-    pub read_unnamed : length list ≤ next → named ≡ false → unparsed 8 ≡ parse_named n list
-    unfolding and_then need parse_named
-    read_unnamed h e = rw (whole, left-none list next h, ← all_whole, e)
-
-    pub read_named : length list ≤ next → named ≡ true → parsed (take n listed) [] ≡ parse_named n list
-    unfolding and_then need parse_named
-    read_named h e = rw (whole, left-none list next h, ← all_whole, e)
+      pub read_named : length list ≤ next → false ≡ list_any (λ t. leb n t) listed → parsed listed [] ≡ parse_named n list
+      unfolding and_then need parse_named
+      read_named h f = rw (whole, left-none list next h, not-false _ (sym (f ∙ any-all n listed)))

@@ -18,6 +18,7 @@ use Rattle.theory.proofs.Lists.Keep.{keep_append, keep-count, keep-more, keep_sa
 use Rattle.layout.specs.limits.Rows.{at, node_of, book_of}
 use Rattle.book.proofs.decode.TermRows.{sets_append, sets_more}
 use Rattle.archive.specs.list.Listed.{is_kind, of_kind}
+use Rattle.archive.proofs.list.Stored.{sets_whole}
 
 -- a row holds a variable where its first word is 0
 pub row-variable : (rows : List ℕ) (t : ℕ) → is_variable (node_of rows t) ≡ eqb (at rows (term_words * t)) 0
@@ -121,9 +122,11 @@ module _ (rows : List ℕ) (n : ℕ) where
       (keep_same (λ t. not (is_variable (node_of rows t))) (λ t. not (is_variable (get_or (book_of rows n) t var))) 0 n
       (λ i k l. ap (λ x. not (is_variable x)) (sym (node_at_lem i (omega arith))))))
 
-  -- one kind behind the other
-  pub kinds_stored : (listed₀ listed listed' : List ℕ) → listed ≡ sets listed₀ 0 (of_kind rows true n)
-      → listed' ≡ sets listed (0 + length (of_kind rows true n)) (of_kind rows false n)
-      → listed' ≡ sets listed₀ 0 (variables_first (book_of rows n))
-  kinds_stored listed₀ listed listed' e f =
-      rw (f, e, ← kinds_listed) (sym (sets_append listed₀ 0 (of_kind rows true n) (of_kind rows false n)))
+  -- one kind behind the other, over numbers that are as many as the terms
+  pub kinds_stored : (listed₀ listed listed' : List ℕ) → length listed₀ ≡ n → listed ≡ sets listed₀ 0 (of_kind rows true n)
+      → listed' ≡ sets listed (0 + length (of_kind rows true n)) (of_kind rows false n) → listed' ≡ variables_first (book_of rows n)
+  kinds_stored listed₀ listed listed' long e f =
+      let both : List ℕ = of_kind rows true n ++ of_kind rows false n in
+      let many : length both ≡ n = rw length-append both_kinds in
+      let stored : listed' ≡ sets listed₀ 0 both = rw (f, e) (sym (sets_append listed₀ 0 (of_kind rows true n) (of_kind rows false n))) in
+      stored ∙ sets_whole listed₀ both (omega arith) ∙ kinds_listed

@@ -3,11 +3,13 @@ use mathlib.Core.Path.{◌≡◌, refl, ap, sym, ◌∙◌}
 use mathlib.Core.List.{List, [], ◌∷◌, ◌++◌, map, map-append}
 use mathlib.Core.Bool.{Bool, true, ◌&&◌, and-true}
 use Prim.Native.Nat.{ℕ, suc, ◌+◌, ◌*◌, ◌-◌, ◌≤◌, ◌<◌}
+use native.Mathlib.Nat.{zero-add}
 use native.Mathlib.Numerals.{add-one}
 use native.Mathlib.Omega.{arith}
 use borrow.Author.Tests.{eq-eqb, ne_eqb}
-use lib.ListN.{length, set, take, drop, length-append, length-map, length-drop}
-use lib.Seq.{sets, length-sets, take-suc, length-take-le, get_or-take, get_or-drop}
+use borrow.Rule.Slice.PartMut.{put_mid}
+use lib.ListN.{length, set, take, drop, length-append, length-map, length-drop, length-set}
+use lib.Seq.{sets, take-suc, take_all, length-take-le}
 use lib.Dec.{ltb}
 use Rattle.model.specs.Limits.{max_arity}
 use Rattle.leb128.specs.Number.{max_groups, write}
@@ -24,6 +26,7 @@ use Rattle.book.specs.parse.Parts.{node_row}
 use Rattle.book.proofs.decode.TermRows.{sets_more}
 use Rattle.runs.proofs.Numbers.{numbers-append, numbers-first, length-write, length-numbers}
 use Rattle.archive.specs.moving.Moving.{RowMoves}
+use Rattle.archive.proofs.list.Stored.{sets_whole, put-sets}
 
 -- no number takes no byte, and 0 takes one
 none-long : length (number_bytes []) ≡ 0
@@ -38,63 +41,67 @@ number_small n e = omega (arith, e, length-write n)
 
 -- ---- arguments
 
-module _ (rows : List ℕ) (start : ℕ) (target : List ℕ) where
+module _ (old target : List ℕ) where
   -- the first j, with new numbers
   abbrev args : ℕ → List ℕ
-  args j = map (at target) (take j (drop start rows))
+  args j = map (at target) (take j old)
 
-  args_more : (j : ℕ) → start + j < length rows → args (j + 1) ≡ args j ++ at target (at rows (start + j)) ∷ []
-  args_more j l =
-      let there : j < length (drop start rows) = rw length-drop (omega arith) in
-      rw (add-one, take-suc (drop start rows) j 0 there, map-append, get_or-drop start rows j 0)
+  args_more : (j : ℕ) → j < length old → args (j + 1) ≡ args j ++ at target (at old j) ∷ []
+  args_more j l = rw (add-one, take-suc old j 0 l, map-append)
 
-  args_long : (j : ℕ) → start + j ≤ length rows → length (args j) ≡ j
-  args_long j l = length-map (take j (drop start rows)) (at target) ∙ length-take-le j (drop start rows) (rw length-drop (omega arith))
+  args_long : (j : ℕ) → j ≤ length old → length (args j) ≡ j
+  args_long j l = length-map (take j old) (at target) ∙ length-take-le j old l
+
+  args_whole : args (length old) ≡ map (at target) old
+  args_whole = ap (map (at target)) (take_all (length old) old (omega arith))
 
   -- The first j are moved; whether they are below the limit and how many bytes they take is known.
-  pub record ArgumentsMoved (count : ℕ) (moved₀ : List ℕ) (place limit : ℕ) (moved : List ℕ) (lower : Bool) (bytes j : ℕ) : Type 0 where
-    pub few : j ≤ count
-    pub written : moved ≡ sets moved₀ place (args j)
+  pub record ArgumentsMoved (moved₀ : List ℕ) (limit : ℕ) (moved : List ℕ) (lower : Bool) (bytes j : ℕ) : Type 0 where
+    pub written : moved ≡ sets moved₀ 0 (args j)
     pub low : lower ≡ all (λ a. ltb a limit) (args j)
     pub long : bytes ≡ length (number_bytes (args j))
 
-  module _ {count : ℕ} {moved₀ : List ℕ} {place limit : ℕ} where
-    pub moved_none : ArgumentsMoved count moved₀ place limit moved₀ true 0 0
+  module _ {moved₀ : List ℕ} {limit : ℕ} where
+    pub moved_none : ArgumentsMoved moved₀ limit moved₀ true 0 0
     unfolding all number_bytes concat_map
-    moved_none = record { few = omega arith; written = refl; low = refl; long = refl }
+    moved_none = record { written = refl; low = refl; long = refl }
 
-    pub moved_more : {moved : List ℕ} {lower : Bool} {bytes j : ℕ} → ArgumentsMoved count moved₀ place limit moved lower bytes j
-        → start + count ≤ length rows → j < count → (more : ℕ) → more ≡ length (write max_groups (at target (at rows (start + j))))
-        → (lower' : Bool) → lower' ≡ lower && ltb (at target (at rows (start + j))) limit
-        → ArgumentsMoved count moved₀ place limit (set moved (place + j) (at target (at rows (start + j)))) lower' (bytes + more) (j + 1)
-    unfolding all
-    moved_more {moved} {lower} {bytes} {j} m room l more b lower' e =
-        record {
-          few = omega arith;
-          written =
-              rw (args_more j (omega arith), sets_more moved₀ place (args j) (at target (at rows (start + j))), args_long j (omega arith), ← m.written);
-          low =
-              rw (args_more j (omega arith), all_append (λ a. ltb a limit) (args j) (at target (at rows (start + j)) ∷ []), ← m.low)
-              (rw and-true e);
-          long =
-              rw (args_more j (omega arith), numbers-append (args j) (at target (at rows (start + j)) ∷ []), numbers-first, length-append, length-append, b, m.long)
-              (omega (arith, none-long));
-        }
+    module _ {moved : List ℕ} {lower : Bool} {bytes j : ℕ} (m : ArgumentsMoved moved₀ limit moved lower bytes j) where
+      pub moved_more : j < length old → (more : ℕ) → more ≡ length (write max_groups (at target (at old j)))
+          → (lower' : Bool) → lower' ≡ lower && ltb (at target (at old j)) limit
+          → ArgumentsMoved moved₀ limit (set moved j (at target (at old j))) lower' (bytes + more) (j + 1)
+      unfolding all
+      moved_more l more b lower' e =
+          record {
+            written =
+                rw (args_more j l, sets_more moved₀ 0 (args j) (at target (at old j)), args_long j (omega arith), zero-add, ← m.written);
+            low =
+                rw (args_more j l, all_append (λ a. ltb a limit) (args j) (at target (at old j) ∷ []), ← m.low)
+                (rw and-true e);
+            long =
+                rw (args_more j l, numbers-append (args j) (at target (at old j) ∷ []), numbers-first, length-append, length-append, b, m.long)
+                (omega (arith, none-long));
+          }
 
-    pub moved-long : {moved : List ℕ} {lower : Bool} {bytes j : ℕ} → ArgumentsMoved count moved₀ place limit moved lower bytes j → length moved ≡ length moved₀
-    moved-long {moved} {lower} {bytes} {j} m = rw m.written (length-sets moved₀ place (args j))
+      -- each takes three bytes at most
+      pub moved-small : j ≤ length old → bytes ≤ max_groups * j
+      moved-small l = omega (arith, m.long, length-numbers (args j), args_long j l)
 
-    -- each takes three bytes at most
-    pub moved-small : {moved : List ℕ} {lower : Bool} {bytes j : ℕ} → ArgumentsMoved count moved₀ place limit moved lower bytes j
-        → start + count ≤ length rows → bytes ≤ max_groups * j
-    moved-small {moved} {lower} {bytes} {j} m room =
-        omega (arith, m.long, length-numbers (args j), args_long j (omega (arith, m.few)))
-
-    pub moved_all : {moved : List ℕ} {lower : Bool} {bytes j : ℕ} → ArgumentsMoved count moved₀ place limit moved lower bytes j → count ≤ j
-        → (lower ≡ all (λ a. ltb a limit) (args count)) × ((bytes ≡ length (number_bytes (args count))) × (moved ≡ sets moved₀ place (args count)))
-    moved_all {moved} {lower} {bytes} {j} m l =
-        let e : j ≡ count = omega (arith, m.few) in
-        (m.low ∙ ap (λ k. all (λ a. ltb a limit) (args k)) e, (m.long ∙ ap (λ k. length (number_bytes (args k))) e, m.written ∙ ap (λ k. sets moved₀ place (args k)) e))
+      -- all of them
+      pub moved_all : j ≡ length old → length old ≡ length moved₀
+          → record {
+            lower : lower ≡ all (λ a. ltb a limit) (map (at target) old);
+            bytes : bytes ≡ length (number_bytes (map (at target) old));
+            moved : moved ≡ map (at target) old;
+          }
+      moved_all e l =
+          let whole : args j ≡ map (at target) old = ap args e ∙ args_whole in
+          let many : length (args j) ≡ length moved₀ = args_long j (omega arith) ∙ e ∙ l in
+          record {
+            lower = rw whole at m.low;
+            bytes = rw whole at m.long;
+            moved = m.written ∙ sets_whole moved₀ (args j) many ∙ whole;
+          }
 
 -- ---- a term
 
@@ -120,36 +127,50 @@ module _ (rows : List ℕ) (t : ℕ) (target : List ℕ) (r : RowMoves rows t ta
     old-long : length (take (at rows (term_words * t + 1)) (drop (term_words * t + 2) rows)) ≡ at rows (term_words * t + 1)
     old-long = length-take-le _ (drop (term_words * t + 2) rows) (rw length-drop (omega (arith, r.within, r.few)))
 
-    pub arguments_fit : term_words * t + 2 + at rows (term_words * t + 1) ≤ length rows
-    arguments_fit = omega (arith, r.within, r.few)
+    -- the words that hold the arguments, where they are `many`
+    module _ (many : ℕ) (m : many ≡ at rows (term_words * t + 1)) where
+      abbrev old : List ℕ
+      old = take many (drop (term_words * t + 2) rows)
 
-    -- each has a new number
-    pub arguments-named : (j : ℕ) → j < at rows (term_words * t + 1) → at rows (term_words * t + 2 + j) < length target
-    unfolding arguments
-    arguments-named j l =
-        let h = rw node at (r.terms j) in
-        let k = h (rw old-long l) in
-        rw (get_or-take (at rows (term_words * t + 1)) (drop (term_words * t + 2) rows) j 0 l, get_or-drop (term_words * t + 2) rows j 0) at k
+      -- as many words as there are for the new ones
+      pub arguments-room : (moved : List ℕ) (place x y many' : ℕ) → many' ≡ at rows (term_words * t + 1) → place + term_words ≤ length moved
+          → length old ≡ length (take many' (drop (place + 2) (set (set moved place x) (place + 1) y)))
+      arguments-room moved place x y many' m' l =
+          let stored : List ℕ = set (set moved place x) (place + 1) y in
+          let room : many' ≤ length (drop (place + 2) stored) = rw (length-drop, length-set, length-set) (omega (arith, r.few)) in
+          rw m old-long ∙ sym m' ∙ sym (length-take-le many' (drop (place + 2) stored) room)
 
-    -- and at most three bytes
-    pub arguments-small : {z : ℕ} → z ≡ length (number_bytes (map (at target) (take (at rows (term_words * t + 1)) (drop (term_words * t + 2) rows))))
-        → z ≤ max_groups * max_arity
-    arguments-small e =
-        omega (arith, e, length-numbers (map (at target) (take (at rows (term_words * t + 1)) (drop (term_words * t + 2) rows))), length-map (take (at rows (term_words * t + 1)) (drop (term_words * t + 2) rows)) (at target), old-long, r.few)
+      -- each has a new number
+      pub arguments-named : (j : ℕ) → j < length old → at old j < length target
+      unfolding arguments
+      arguments-named = rw m (rw node at r.terms)
 
-    pub applied-moved : (moved moved' : List ℕ) (place i : ℕ) (lower : Bool) (x y z : ℕ) →
-        let args' = map (at target) (take (at rows (term_words * t + 1)) (drop (term_words * t + 2) rows)) in
-        lower ≡ all (λ a. ltb a i) args' → x ≡ length (write max_groups (at rows (term_words * t)))
-        → y ≡ length (write max_groups (at rows (term_words * t + 1))) → z ≡ length (number_bytes args')
-        → moved' ≡ sets (set (set moved place (at rows (term_words * t))) (place + 1) (at rows (term_words * t + 1))) (place + 2) args'
-        → (lower ≡ all (λ a. ltb a i) (arguments new)) × ((x + y + z ≡ length (number_bytes (node_numbers new))) × (moved' ≡ sets moved place (node_row new)))
-    unfolding renumbered arguments node_numbers node_row
-    applied-moved moved moved' place i lower x y z f a b c g =
-        let symbol : suc (at rows (term_words * t) - 1) ≡ at rows (term_words * t) = omega arith in
-        let two : place + 2 ≡ suc (suc place) = omega arith in (
-          rw node f,
-          (
-            rw (node, symbol, length-map, old-long, numbers-first, numbers-first, length-append, length-append, a, b, c) (omega arith),
-            rw (node, symbol, length-map, old-long) (rw (add-one, two) at g),
-          ),
-        )
+      -- and at most three bytes
+      pub arguments-small : {z : ℕ} → z ≡ length (number_bytes (map (at target) old)) → z ≤ max_groups * max_arity
+      arguments-small e =
+          let few : length old ≡ at rows (term_words * t + 1) = rw m old-long in
+          omega (arith, e, length-numbers (map (at target) old), length-map old (at target), few, r.few)
+
+      pub applied-moved : (moved news : List ℕ) (place i many' : ℕ) (lower : Bool) (x y z : ℕ) → many' ≡ at rows (term_words * t + 1)
+          → place + term_words ≤ length moved → lower ≡ all (λ a. ltb a i) (map (at target) old) → x ≡ length (write max_groups (at rows (term_words * t)))
+          → y ≡ length (write max_groups (at rows (term_words * t + 1))) → z ≡ length (number_bytes (map (at target) old)) → news ≡ map (at target) old
+          → record {
+            lower : lower ≡ all (λ a. ltb a i) (arguments new);
+            bytes : x + y + z ≡ length (number_bytes (node_numbers new));
+            moved : put_mid (place + 2) many' (set (set moved place (at rows (term_words * t))) (place + 1) (at rows (term_words * t + 1))) news
+                ≡ sets moved place (node_row new);
+          }
+      unfolding renumbered arguments node_numbers node_row
+      applied-moved moved news place i many' lower x y z m' l f a b c g =
+          let symbol : suc (at rows (term_words * t) - 1) ≡ at rows (term_words * t) = omega arith in
+          let two : place + 2 ≡ suc (suc place) = omega arith in
+          let stored : List ℕ = set (set moved place (at rows (term_words * t))) (place + 1) (at rows (term_words * t + 1)) in
+          let few : length news ≡ many' = rw (g, m, length-map, m') old-long in
+          let room : place + 2 + many' ≤ length stored = rw (length-set, length-set) (omega (arith, r.few)) in
+          let row : put_mid (place + 2) many' stored news ≡ sets stored (place + 2) news = put-sets (place + 2) many' stored news few room in
+          record {
+            lower = rw (node, ← m) f;
+            bytes =
+                rw (node, symbol, length-map, old-long, numbers-first, numbers-first, length-append, length-append, a, b, c, m) (omega arith);
+            moved = row ∙ rw (node, symbol, length-map, old-long, g, m, two, add-one place);
+          }

@@ -1,10 +1,9 @@
 -- Rows that hold a book can be moved by a list that names every term once, and by its inverse. Assumes nothing.
-use mathlib.Core.Path.{◌≡◌, ap, sym, ◌∙◌}
+use mathlib.Core.Path.{◌≡◌, refl, ap, sym, ◌∙◌}
 use mathlib.Core.List.{List}
 use Prim.Native.Nat.{ℕ, ◌*◌, ◌≤◌, ◌<◌}
 use native.Mathlib.Omega.{arith}
-use lib.ListN.{length, get_or, take}
-use lib.Seq.{get_or-take}
+use lib.ListN.{length, get_or}
 use Rattle.model.specs.Term.{var, arguments, Book, Bindings}
 use Rattle.model.specs.Area.{term_words}
 use Rattle.model.specs.Archive.{new_number, old_number, moved}
@@ -53,18 +52,18 @@ module _ {size : ℕ} {rows : List ℕ} {n : ℕ} {b : Book} {β : Bindings} (d 
       ∙ moved_same (at source) f (at target) g b (λ i l. s i (omega arith)) (λ i l. omega (arith, low i (omega arith)))
       (λ u l i k. (let x : get_or (arguments (get_or b u var)) i 0 < u = d.formed.lower u l i k in omega arith)) (λ a l. t a (omega arith))
 
-  module _ (listed places : List ℕ) (o : EachOnce n (take n listed)) (v : Inverse n (take n listed) places) where
-    old : (i : ℕ) → i < n → at listed i ≡ old_number (take n listed) i
+  module _ (listed places : List ℕ) (o : EachOnce n listed) (v : Inverse n listed places) where
+    old : (i : ℕ) → i < n → at listed i ≡ old_number listed i
     unfolding old_number
-    old i l = sym (get_or-take n listed i 0 l)
+    old i l = refl
 
     -- by the list, and by its inverse
-    pub held_stored : moved_book rows n listed places ≡ moved (old_number (take n listed)) (new_number (take n listed)) b
+    pub held_stored : moved_book rows n listed places ≡ moved (old_number listed) (new_number listed) b
     unfolding old_number
-    held_stored = same listed places (old_number (take n listed)) (new_number (take n listed)) old o.terms v
+    held_stored = same listed places (old_number listed) (new_number listed) old o.terms v
 
-    pub held_restored : moved_book rows n places listed ≡ moved (new_number (take n listed)) (old_number (take n listed)) b
-    held_restored = same places listed (new_number (take n listed)) (old_number (take n listed)) v (new-lt n (take n listed) o) old
+    pub held_restored : moved_book rows n places listed ≡ moved (new_number listed) (old_number listed) b
+    held_restored = same places listed (new_number listed) (old_number listed) v (new-lt n listed o) old
 
     pub places-low : (i : ℕ) → i < n → at places i < n
-    places-low i l = rw (v i l) (new-lt n (take n listed) o i l)
+    places-low i l = rw (v i l) (new-lt n listed o i l)

@@ -1,7 +1,7 @@
 -- Terms moved one after the other. Assumes nothing.
 use mathlib.Core.Path.{◌≡◌, refl, ap, ap₂, sym, ◌∙◌}
 use mathlib.Core.List.{List, [], ◌∷◌, ◌++◌, append-nil, map}
-use mathlib.Core.Bool.{Bool, true, false, cond, ◌&&◌, and-true, and-false}
+use mathlib.Core.Bool.{Bool, true, false, cond, ◌&&◌, and-true}
 use Prim.Native.Nat.{ℕ, zero, suc, ◌+◌, ◌*◌, ◌-◌, ◌≤◌, ◌<◌, zero-le}
 use native.Mathlib.Nat.{zero-add}
 use native.Mathlib.Omega.{arith}
@@ -61,13 +61,6 @@ row-few rows t h = go (eqb (at rows (term_words * t)) 0)
     go : (b : Bool) → length (arguments (cond b var (app (at rows (term_words * t) - 1) (take (at rows (term_words * t + 1)) (drop (term_words * t + 2) rows))))) ≤ max_arity
     go true = zero-le
     go false = rw length-take (omega arith)
-
--- the answer for the terms so far and for one more
-pub falls : (lower : Bool) {t : Bool} → t ≡ false → false ≡ lower && t
-falls lower e = rw (e, and-false)
-
-pub stays : (lower : Bool) {t : Bool} → t ≡ true → lower ≡ lower && t
-stays lower e = rw (e, and-true)
 
 -- THE FIRST TERMS.
 module _ (rows : List ℕ) (n : ℕ) (source target : List ℕ) where

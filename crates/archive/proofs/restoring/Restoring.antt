@@ -3,10 +3,10 @@ use mathlib.Core.Path.{◌≡◌, refl, ap, sym, ◌∙◌}
 use mathlib.Core.List.{List, [], map}
 use mathlib.Core.Bool.{Bool, true, false}
 use mathlib.Core.Option.{none}
-use Prim.Native.Nat.{ℕ, zero, suc, ◌*◌, ◌≤◌, ◌<◌}
+use Prim.Native.Nat.{ℕ, ◌*◌, ◌<◌}
 use native.Mathlib.Omega.{arith}
 use lib.ListN.{length, take, replicate, length-replicate}
-use lib.Seq.{length-take-le, get_or-take}
+use Rattle.std.specs.Prelude.{Result, Ok, Err, IfOk, OnOk}
 use lib.Dec.{T, ltb, ltb→lt}
 use Rattle.model.specs.Limits.{Limits}
 use Rattle.model.specs.Lists.{all, is_empty}
@@ -23,15 +23,21 @@ use Rattle.theory.proofs.Refusals.Deciding.{tells_of}
 use Rattle.theory.proofs.Refusals.Archive.{tells_distinct}
 use Rattle.theory.proofs.Archive.Moved.{length_moved}
 use Rattle.theory.proofs.Archive.Calls.{restored_opens, restored_positive}
+use Rattle.refusal.specs.declared.Refusal.{Refusal}
+use Rattle.refusal.specs.declared.Refusal.TheVariants.{NotLower, NamedTwice}
+use Rattle.refusal.specs.Numbers.{number_of, number}
+use Rattle.refusal.proofs.Numbers.{none_is_zero}
 use Rattle.layout.specs.limits.Rows.{at, book_of}
 use Rattle.book.specs.decode.Rows.{book_rows, decoded_refusal, decoded_book}
 use Rattle.book.specs.parse.Parts.{outcome}
 use Rattle.book.proofs.decode.Outcome.{outcome_decoded, decoded, not_decoded}
-use Rattle.book.proofs.encode.Copied.{Decoded, decoded_few}
+use Rattle.book.proofs.encode.Copied.{Decoded}
+use Rattle.archive.specs.declared.restoring.Restored.{Restored}
 use Rattle.archive.specs.list.Listed.{parse_named, Inverse}
 use Rattle.archive.specs.moving.Moving.{RowsMove, moved_book}
 use Rattle.archive.proofs.list.OfKind.{book-long}
 use Rattle.archive.proofs.moving.Held.{held_moves, held_restored, places-low}
+use Rattle.archive.proofs.storing.Storing.{part_long}
 
 -- ---- the outcome, refusal by refusal
 
@@ -52,18 +58,30 @@ list-named n bytes = go (parse_numbers n bytes)
     go (parsed list rest) = tests list (is_empty rest) (all (λ t. ltb t n) list)
     go (unparsed k) = refl
 
--- What decoding answers of an outcome: its refusal, the number of its terms, the length of its bytes, and its rows.
-abbrev pub Answered : ℕ → Parsed Book → ℕ → ℕ → ℕ → List ℕ → Type 0
-Answered size p refusal terms bytes rows =
-    (refusal ≡ decoded_refusal p)
-    × ((terms ≡ length (decoded_book p))
-    × ((refusal ≡ 0 → bytes ≡ length (book_bytes (decoded_book p))) × (refusal ≡ 0 → rows ≡ book_rows size (decoded_book p))))
+-- What decoding answers of an outcome: its refusal; or the number of its terms, the length of its bytes, and its rows.
+abbrev pub Answered : ℕ → Parsed Book → Result Restored Refusal → List ℕ → Type 0
+Answered size p r rows = record {
+  refusal : number r ≡ decoded_refusal p;
+  terms : IfOk r (λ x. x.terms ≡ length (decoded_book p));
+  bytes : IfOk r (λ x. x.bytes ≡ length (book_bytes (decoded_book p)));
+  rows : OnOk r (rows ≡ book_rows size (decoded_book p));
+}
 
 -- a refusal
-answered-refused : (size : ℕ) (p : Parsed Book) (k : ℕ) → p ≡ unparsed k → (k ≡ 0 → ⊥) → (refusal terms bytes : ℕ) → refusal ≡ k → terms ≡ 0 → (rows : List ℕ)
-    → Answered size p refusal terms bytes rows
-unfolding decoded_refusal decoded_book
-answered-refused size p k e h refusal terms bytes r m rows = rw (e, r, m) (refl, (refl, (λ z. absurd (h z), λ z. absurd (h z))))
+answered-refused : (size : ℕ) (p : Parsed Book) (e : Refusal) → p ≡ unparsed (number_of e) → (rows : List ℕ) → Answered size p (Err e) rows
+unfolding decoded_refusal
+answered-refused size p e q rows = record { refusal = rw q; terms = tt; bytes = tt; rows = tt }
+
+-- The list that was read: it has as many numbers as there are terms, and each names one.
+pub record ListRead (n : ℕ) (list listed : List ℕ) : Type 0 where
+  pub long : length listed ≡ n
+  pub named : parse_named n list ≡ parsed listed []
+
+-- It names none twice, and has an inverse.
+pub record Inverted (n : ℕ) (listed places : List ℕ) : Type 0 where
+  pub distinct : all_distinct listed ≡ true
+  pub long : length places ≡ n
+  pub inverse : Inverse n listed places
 
 module _ (lim : Limits) (book list : List ℕ) where
   abbrev restored : Parsed Book
@@ -73,18 +91,15 @@ module _ (lim : Limits) (book list : List ℕ) where
   size = term_words * lim.max_terms
 
   -- THE BOOK is refused.
-  pub book-refused : (k : ℕ) → k ≡ decoded_refusal (parse_book lim book) → (k ≡ 0 → ⊥) → (refusal terms bytes : ℕ) → refusal ≡ k → terms ≡ 0
-      → (rows : List ℕ) → Answered size restored refusal terms bytes rows
+  pub book-refused : (e : Refusal) → number_of e ≡ decoded_refusal (parse_book lim book) → (rows : List ℕ) → Answered size restored (Err e) rows
   unfolding parse_restored and_then
-  book-refused k r h =
-      answered-refused size restored k (ap (λ p. and_then p (λ b rest. restore_by list b)) (not_decoded lim book (λ z. h (r ∙ z))) ∙ ap unparsed (sym r)) h
+  book-refused e r =
+      answered-refused size restored e
+      (ap (λ p. and_then p (λ b rest. restore_by list b)) (not_decoded lim book (λ z. none_is_zero e (r ∙ z))) ∙ ap unparsed (sym r))
 
   module _ {rows : List ℕ} {n : ℕ} {β : Bindings} (d : Decoded size (parse_book lim book) rows n β) where
     abbrev the_book : Book
     the_book = decoded_book (parse_book lim book)
-
-    few : n ≤ lim.max_terms
-    few = decoded_few lim book d
 
     -- it is not: then the list counts
     by_list : restored ≡ and_then (parse_list n list) (λ listed rest. need (arguments_lower (restored_book listed the_book)) 5 (parsed (restored_book listed the_book) []))
@@ -93,79 +108,77 @@ module _ (lim : Limits) (book list : List ℕ) where
         ap (λ p. and_then p (λ b rest. restore_by list b)) (decoded lim book d.none-refused).1
         ∙ ap (λ k. and_then (parse_list k list) (λ listed rest. need (arguments_lower (restored_book listed the_book)) 5 (parsed (restored_book listed the_book) []))) (sym d.held.as_many)
 
-    -- THE LIST is refused by 1, 2, 3 or 8.
-    pub list-refused : (k : ℕ) (listed : List ℕ) → outcome k [] listed ≡ parse_named n list → (k ≡ 0 → ⊥) → (refusal terms bytes : ℕ) → refusal ≡ k → terms ≡ 0
-        → (rows : List ℕ) → Answered size restored refusal terms bytes rows
-    unfolding outcome and_then
-    list-refused zero listed e h = absurd (h refl)
-    list-refused (suc k) listed e h =
-        answered-refused size restored (suc k) (by_list ∙ rw (list-named n list, ← e)) h
+    module _ (lent : List ℕ) (room : length lent ≡ lim.max_terms) where
+      -- THE LIST is refused by 1, 2, 3 or 8.
+      pub list-refused : (e : Refusal) (listed : List ℕ) → outcome {A = Unit {0}} (Err e) [] listed ≡ parse_named (length (take n lent)) list → (rows : List ℕ)
+          → Answered size restored (Err e) rows
+      unfolding outcome and_then
+      list-refused e listed q = answered-refused size restored e (by_list ∙ rw (list-named n list, ← part_long lim book d lent room, ← q))
 
-    -- It names terms.
-    module _ (listed : List ℕ) (long : length listed ≡ lim.max_terms) (named : outcome 0 [] (take n listed) ≡ parse_named n list) where
-      is-named : parse_named n list ≡ parsed (take n listed) []
+      -- It names terms.
+      pub list_read : (listed : List ℕ) → length listed ≡ length (take n lent) → (u : Unit {0})
+          → outcome (Ok u) [] listed ≡ parse_named (length (take n lent)) list → ListRead n list listed
       unfolding outcome
-      is-named = sym named
+      list_read listed as_lent u named = record { long = as_lent ∙ part_long lim book d lent room; named = rw (part_long lim book d lent room) at (sym named) }
 
-      all_named : T (all (λ t. ltb t n) (take n listed))
+    module _ {listed : List ℕ} (r : ListRead n list listed) where
+      all_named : T (all (λ t. ltb t n) listed)
       unfolding parse_named
       all_named =
-          gives_at (λ xs rest. T (all (λ t. ltb t n) xs)) (parse_named n list) (take n listed) []
+          gives_at (λ xs rest. T (all (λ t. ltb t n) xs)) (parse_named n list) listed []
           (and_then-any _ (parse_numbers n list) _ λ xs rest.
           need_gives _ (is_empty rest) 3 _ λ a.
-          need_gives _ (all (λ t. ltb t n) xs) 8 (parsed xs []) λ h. h) is-named
+          need_gives _ (all (λ t. ltb t n) xs) 8 (parsed xs []) λ h. h) r.named
 
-      list-long : length (take n listed) ≡ n
-      list-long = length-take-le n listed (omega (arith, few))
+      low : (i : ℕ) → i < n → at listed i < n
+      low i l = ltb→lt _ n (all-at (λ t. ltb t n) listed 0 all_named i (rw r.long l))
 
-      pub named-low : (i : ℕ) → i < n → at listed i < n
-      named-low i l = rw (get_or-take n listed i 0 l) at (ltb→lt _ n (all-at (λ t. ltb t n) (take n listed) 0 all_named i (rw list-long l)))
+      pub named-low : (i : ℕ) → i < length listed → at listed i < length listed
+      named-low = rw r.long low
 
       -- A TERM TWICE.
-      pub list_twice : all_distinct (take n listed) ≡ false → (refusal terms bytes : ℕ) → refusal ≡ 14 → terms ≡ 0 → (rows : List ℕ) → Answered size restored refusal terms bytes rows
+      pub list_twice : all_distinct listed ≡ false → (rows : List ℕ) → Answered size restored (Err NamedTwice) rows
       unfolding and_then need
-      list_twice e = answered-refused size restored 14 (by_list ∙ rw (list-named n list, is-named, e)) (λ z. omega arith)
+      list_twice e = answered-refused size restored NamedTwice (by_list ∙ rw (list-named n list, r.named, e))
 
       -- Each term once.
-      module _ (e : all_distinct (take n listed) ≡ true) (places : List ℕ) (v : Inverse n (take n listed) places) where
-        once : EachOnce n (take n listed)
-        once =
-            record {
-              as_many = list-long;
-              terms = λ i l. rw (get_or-take n listed i 0 l) (named-low i l);
-              once = tells_of (tells_distinct (take n listed)) (true_T _ e);
-            }
+      pub inverted : (lent places : List ℕ) → length lent ≡ lim.max_terms → length places ≡ length (take n lent) → all_distinct listed ≡ true
+          → Inverse (length listed) listed places → Inverted n listed places
+      inverted lent places room as_lent e v = record { distinct = e; long = as_lent ∙ part_long lim book d lent room; inverse = rw r.long at v }
 
-        pub lists_moved : length places ≡ lim.max_terms → RowsMove rows n places listed
-        lists_moved m =
-            held_moves d.held places listed (omega (arith, few)) (omega (arith, few)) (places-low d.held listed places once v)
+      module _ {places : List ℕ} (v : Inverted n listed places) where
+        once : EachOnce n listed
+        once = record { as_many = r.long; terms = low; once = tells_of (tells_distinct listed) (true_T _ v.distinct) }
 
-        same : moved_book rows n places listed ≡ restored_book (take n listed) the_book
-        unfolding restored_book
-        same = held_restored d.held listed places once v
+        pub lists_moved : RowsMove rows (length places) places listed
+        lists_moved =
+            rw v.long (held_moves d.held places listed (omega (arith, v.long)) (omega (arith, r.long)) (places-low d.held listed places once v.inverse))
 
-        by_rule : restored ≡ need (arguments_lower (moved_book rows n places listed)) 5 (parsed (moved_book rows n places listed) [])
-        unfolding and_then need
-        by_rule = by_list ∙ rw (list-named n list, is-named, e, same)
+        by_rule : restored ≡ need (arguments_lower (moved_book rows (length places) places listed)) 5 (parsed (moved_book rows (length places) places listed) [])
+        unfolding and_then need restored_book
+        by_rule = by_list ∙ rw (list-named n list, r.named, v.distinct, v.long, held_restored d.held listed places once v.inverse)
 
         -- RULE 5 does not hold.
-        pub not_lower : arguments_lower (moved_book rows n places listed) ≡ false → (refusal terms bytes : ℕ) → refusal ≡ 5 → terms ≡ 0 → (rows : List ℕ)
-            → Answered size restored refusal terms bytes rows
+        pub not_lower : arguments_lower (moved_book rows (length places) places listed) ≡ false → (rows : List ℕ) → Answered size restored (Err NotLower) rows
         unfolding need
-        not_lower f = answered-refused size restored 5 (by_rule ∙ rw f) (λ z. omega arith)
+        not_lower f = answered-refused size restored NotLower (by_rule ∙ rw f)
 
         -- It holds.
-        pub all_restored : arguments_lower (moved_book rows n places listed) ≡ true → (moved₀ moved' : List ℕ) → moved₀ ≡ replicate size 0
-            → moved' ≡ book_rows (length moved₀) (moved_book rows n places listed) → (bytes : ℕ) → bytes ≡ length (book_bytes (moved_book rows n places listed))
-            → Answered size restored 0 n bytes moved'
+        pub all_restored : arguments_lower (moved_book rows (length places) places listed) ≡ true → (moved₀ moved' : List ℕ) → moved₀ ≡ replicate size 0
+            → moved' ≡ book_rows (length moved₀) (moved_book rows (length places) places listed) → (bytes : ℕ)
+            → bytes ≡ length (book_bytes (moved_book rows (length places) places listed)) → Answered size restored (Ok (record { terms = n; bytes = bytes })) moved'
         unfolding need decoded_refusal decoded_book moved_book
         all_restored f moved₀ moved' blank w bytes b =
-            let long : length moved₀ ≡ size = rw (blank, length-replicate) in
-            let whole : restored ≡ parsed (moved_book rows n places listed) [] = by_rule ∙ rw f in
-            rw whole (refl, (sym many, (λ y. b, λ y. w ∙ ap (λ k. book_rows k (moved_book rows n places listed)) long)))
-          where
-            many : length (moved_book rows n places listed) ≡ n
-            many = length_moved (at places) (at listed) (book_of rows n) ∙ book-long rows n
+            let words : length moved₀ ≡ size = rw (blank, length-replicate) in
+            let whole : restored ≡ parsed (moved_book rows (length places) places listed) [] = by_rule ∙ rw f in
+            let terms : length (moved_book rows (length places) places listed) ≡ length places =
+            length_moved (at places) (at listed) (book_of rows (length places)) ∙ book-long rows (length places) in
+            record {
+              refusal = rw whole;
+              terms = rw whole (sym (terms ∙ v.long));
+              bytes = rw whole b;
+              rows = rw whole (w ∙ ap (λ k. book_rows k (moved_book rows (length places) places listed)) words);
+            }
 
 -- ---- the book that is restored
 

@@ -1,12 +1,13 @@
 -- Storing a book by way of its rows: the rows hold what is stored, and what is written of them is the outcome of the call. Assumes nothing.
 use mathlib.Core.Path.{◌≡◌, refl, ap, ap₂, sym, ◌∙◌}
 use mathlib.Core.List.{List, [], map}
-use mathlib.Core.Bool.{true}
+use mathlib.Core.Bool.{Bool, true, false, true≢false}
 use mathlib.Core.Option.{none}
 use Prim.Native.Nat.{ℕ, ◌*◌, ◌≤◌, ◌<◌}
 use native.Mathlib.Omega.{arith}
 use lib.ListN.{length, get_or, take, replicate, length-replicate}
-use lib.Seq.{sets, sets-eq, length-sets, get_or-take, take-append_seam}
+use lib.Seq.{length-take-le}
+use Rattle.std.specs.Prelude.{Result, Ok, Err, MatchResult, OnOk, IsOk}
 use lib.Dec.{le→leb}
 use Rattle.leb128.specs.Number.{max_number}
 use Rattle.model.specs.Limits.{Limits}
@@ -14,7 +15,7 @@ use Rattle.model.specs.Term.{Node, Book, Bindings}
 use Rattle.model.specs.Area.{term_words}
 use Rattle.model.specs.Report.{number_bytes}
 use Rattle.model.specs.BookBytes.{parse_book, book_bytes}
-use Rattle.model.specs.Archive.{variables_first, new_number, old_number, stored_book, all_distinct, not_stored, emit_both, store_parsed, call_store}
+use Rattle.model.specs.Archive.{variables_first, new_number, old_number, stored_book, moved, all_distinct, not_stored, emit_both, store_parsed, call_store}
 use Rattle.theory.specs.Modest.{Modest}
 use Rattle.theory.specs.Archive.{EachOnce}
 use Rattle.theory.proofs.Lists.Laws.{all_intro}
@@ -24,6 +25,10 @@ use Rattle.theory.proofs.Book.Round.{parsed_formed}
 use Rattle.theory.proofs.Archive.Moved.{length_moved}
 use Rattle.theory.proofs.Archive.VariablesFirst.{in_order}
 use Rattle.theory.proofs.Archive.Formed.{stored_opens}
+use Rattle.refusal.specs.declared.Refusal.{Refusal}
+use Rattle.refusal.specs.declared.Refusal.TheVariants.{NamedTwice}
+use Rattle.refusal.specs.Numbers.{number_of}
+use Rattle.refusal.proofs.Numbers.{none_is_zero}
 use Rattle.layout.specs.limits.Rows.{at, book_of}
 use Rattle.runs.specs.Runs.{small_words}
 use Rattle.runs.specs.Emits.{WritesBoth}
@@ -53,10 +58,20 @@ module _ {lim : Limits} {rows listed places moved : List ℕ} (l : Lent lim rows
   moved-blank = l.moved_zero ∙ ap (λ k. replicate k 0) (sym moved-room)
 
 -- a book that is refused
-pub store_refused : (lim : Limits) (book out list : List ℕ) (n : ℕ) → n ≡ decoded_refusal (parse_book lim book) → (n ≡ 0 → ⊥)
-    → WritesBoth (call_store lim book out list) n 0 0 out list
+pub store_refused : (lim : Limits) (book out list : List ℕ) (e : Refusal) → number_of e ≡ decoded_refusal (parse_book lim book)
+    → WritesBoth (call_store lim book out list) (number_of e) 0 0 out list
 unfolding call_store store_parsed not_stored
-store_refused lim book out list n e h = rw e (writes_both (ap (store_parsed out list) (not_decoded lim book (λ z. h (e ∙ z)))) (refl, (refl, (refl, refl))))
+store_refused lim book out list e q =
+    rw q (writes_both (ap (store_parsed out list) (not_decoded lim book (λ z. none_is_zero e (q ∙ z)))) (refl, (refl, (refl, refl))))
+
+-- What is lent has room for as many numbers as a book that was decoded has terms.
+module _ (lim : Limits) (book : List ℕ) {rows : List ℕ} {n : ℕ} {β : Bindings}
+    (d : Decoded (term_words * lim.max_terms) (parse_book lim book) rows n β) (lent : List ℕ) (room : length lent ≡ lim.max_terms) where
+  pub part_fits : n ≤ length lent
+  part_fits = omega (arith, decoded_few lim book d)
+
+  pub part_long : length (take n lent) ≡ n
+  part_long = length-take-le n lent part_fits
 
 -- A book that was decoded, and its list.
 module _ (lim : Limits) (book : List ℕ) {rows : List ℕ} {n : ℕ} {β : Bindings}
@@ -67,76 +82,78 @@ module _ (lim : Limits) (book : List ℕ) {rows : List ℕ} {n : ℕ} {β : Bind
   abbrev size : ℕ
   size = term_words * lim.max_terms
 
-  few : n ≤ lim.max_terms
-  few = decoded_few lim book d
-
-  module _ (listed₀ listed : List ℕ) (zero : listed₀ ≡ replicate lim.max_terms 0)
-      (e : listed ≡ sets listed₀ 0 (variables_first (book_of rows n))) where
+  module _ (listed₀ listed : List ℕ) (room : length listed₀ ≡ lim.max_terms) (e : listed ≡ variables_first (book_of rows (length (take n listed₀)))) where
     abbrev list : List ℕ
     list = variables_first the_book
 
     first-once : EachOnce (length the_book) list
     first-once = (in_order the_book).each_once
 
-    pub listed-long : length listed ≡ lim.max_terms
-    listed-long = rw (e, length-sets, zero, length-replicate)
+    front : listed ≡ list
+    front = e ∙ ap (λ k. variables_first (book_of rows k)) (part_long lim book d listed₀ room) ∙ ap variables_first (held-book d.held)
 
-    -- the first numbers are the list
-    pub front : take n listed ≡ list
-    front =
-        let long : length list ≡ n = first-once.as_many ∙ sym d.held.as_many in
-        let zeros : length listed₀ ≡ lim.max_terms = rw (zero, length-replicate) in
-        rw (e, held-book d.held, sets-eq list listed₀ 0 (omega (arith, few)), ← long) (take-append_seam list _)
-
-    once : EachOnce n (take n listed)
+    once : EachOnce n listed
     once = rw (front, d.held.as_many) first-once
 
-    pub listed-low : (i : ℕ) → i < n → at listed i < n
-    listed-low i l = rw (get_or-take n listed i 0 l) at (once.terms i l)
+    pub long : length listed ≡ n
+    long = once.as_many
 
-    pub distinct : all_distinct (take n listed) ≡ true
-    distinct = told (tells_distinct (take n listed)) once.once
+    pub listed-low : (i : ℕ) → i < length listed → at listed i < length listed
+    listed-low = rw long once.terms
 
-    pub small-list : small_words (take n listed)
+    pub distinct : all_distinct listed ≡ true
+    distinct = told (tells_distinct listed) once.once
+
+    pub small-list : small_words listed
     unfolding small_words
     small-list =
-        all_intro _ (take n listed) 0 (λ i l.
-        let k : i < n = rw once.as_many at l in
-        le→leb (get_or (take n listed) i 0) max_number (omega (arith, once.terms i k, few, modest.terms)))
+        all_intro _ listed 0 (λ i l.
+        le→leb (get_or listed i 0) max_number (omega (arith, listed-low i l, long, decoded_few lim book d, modest.terms)))
 
-    pub lists_moved : (places : List ℕ) → length places ≡ lim.max_terms → RowsMove rows n listed places
-    lists_moved places long = held_moves d.held listed places (omega (arith, listed-long, few)) (omega (arith, few)) listed-low
+    module _ (places₀ places : List ℕ) (space : length places₀ ≡ lim.max_terms) (as_lent : length places ≡ length (take n places₀)) where
+      pub lists_moved : RowsMove rows (length listed) listed places
+      lists_moved =
+          rw long (held_moves d.held listed places (omega (arith, long)) (omega (arith, as_lent, part_long lim book d places₀ space)) once.terms)
 
-    module _ (places : List ℕ) (v : Inverse n (take n listed) places) (moved₀ moved' : List ℕ) (blank : moved₀ ≡ replicate size 0)
-        (w : moved' ≡ book_rows (length moved₀) (moved_book rows n listed places)) where
-      -- the rows hold the stored book
-      pub stored_held : BookHeld size moved' n (stored_book the_book) (map (λ (x : Node). none) (stored_book the_book))
-      unfolding stored_book
-      stored_held =
-          let p = decoded lim book d.none-refused in
-          let long : length moved₀ ≡ size = rw (blank, length-replicate) in
-          let same : moved_book rows n listed places ≡ stored_book the_book = rw front at (held_stored d.held listed places once v) in
-          let many : length (stored_book the_book) ≡ length the_book = length_moved (old_number list) (new_number list) the_book in
-          let f = parsed_formed lim _ (stored_book the_book) [] (stored_opens lim book the_book p.0 p.1) in
-          record {
-            formed = f.0;
-            few = omega (arith, f.1, modest.terms);
-            room = omega (arith, f.1);
-            as_many = d.held.as_many ∙ sym many;
-            written = w ∙ ap₂ book_rows long same;
-          }
+      module _ (v : Inverse (length listed) listed places) (moved₀ moved' : List ℕ) (blank : moved₀ ≡ replicate size 0)
+          (w : moved' ≡ book_rows (length moved₀) (moved_book rows (length listed) listed places)) where
+        same : moved_book rows (length listed) listed places ≡ stored_book the_book
+        unfolding stored_book
+        same =
+            let inverse : Inverse n listed places = rw long at v in
+            rw long (held_stored d.held listed places once inverse) ∙ ap (λ l. moved (old_number l) (new_number l) the_book) front
 
-      -- of so many bytes
-      pub stored_bytes_lem : {bytes : ℕ} → bytes ≡ length (book_bytes (moved_book rows n listed places)) → bytes ≡ length (book_bytes (book_of moved' n))
-      unfolding stored_book
-      stored_bytes_lem e =
-          let same : moved_book rows n listed places ≡ stored_book the_book = rw front at (held_stored d.held listed places once v) in
-          e ∙ ap (λ b. length (book_bytes b)) (same ∙ sym (held-book stored_held))
+        -- the rows hold the stored book
+        pub stored_held : BookHeld size moved' (length listed) (stored_book the_book) (map (λ (x : Node). none) (stored_book the_book))
+        unfolding stored_book
+        stored_held =
+            let p = decoded lim book d.none-refused in
+            let words : length moved₀ ≡ size = rw (blank, length-replicate) in
+            let terms : length (stored_book the_book) ≡ length the_book = length_moved (old_number list) (new_number list) the_book in
+            let f = parsed_formed lim _ (stored_book the_book) [] (stored_opens lim book the_book p.0 p.1) in
+            record {
+              formed = f.0;
+              few = omega (arith, f.1, modest.terms);
+              room = omega (arith, f.1);
+              as_many = long ∙ d.held.as_many ∙ sym terms;
+              written = w ∙ ap₂ book_rows words same;
+            }
 
-      -- and what is written of them is stored
-      pub stored_written : (out buffer : List ℕ) {refusal written listWritten : ℕ} {out' buffer' : List ℕ}
-          → WritesBoth (emit_both (book_bytes (book_of moved' n)) (number_bytes (take n listed)) out buffer) refusal written listWritten out' buffer'
-          → WritesBoth (call_store lim book out buffer) refusal written listWritten out' buffer'
-      unfolding call_store store_parsed
-      stored_written out buffer h =
-          writes_both (ap (store_parsed out buffer) (decoded lim book d.none-refused).1) (rw (← held-book stored_held, ← front) h)
+        -- of so many bytes
+        pub stored_bytes_lem : {bytes : ℕ} → bytes ≡ length (book_bytes (moved_book rows (length listed) listed places))
+            → bytes ≡ length (book_bytes (book_of moved' (length listed)))
+        stored_bytes_lem e = e ∙ ap (λ b. length (book_bytes b)) (same ∙ sym (held-book stored_held))
+
+        -- and what is written of them is stored
+        pub stored_written : (out buffer : List ℕ) {refusal written listWritten : ℕ} {out' buffer' : List ℕ}
+            → WritesBoth (emit_both (book_bytes (book_of moved' (length listed))) (number_bytes listed) out buffer) refusal written listWritten out' buffer'
+            → WritesBoth (call_store lim book out buffer) refusal written listWritten out' buffer'
+        unfolding call_store store_parsed
+        stored_written out buffer h =
+            writes_both (ap (store_parsed out buffer) (decoded lim book d.none-refused).1) (rw (← held-book stored_held, ← front) h)
+
+-- The list names no term twice, so it has an inverse.
+pub inverted : {P : Type 0} (r : Result (Unit {0}) Refusal) (t : Bool) → t ≡ true
+    → MatchResult r (λ _. t ≡ true) (λ e. (t ≡ false) × (e ≡ NamedTwice)) → OnOk r P → IsOk r × P
+inverted (Ok u) t e m p = (refl, p)
+inverted (Err x) t e m p = absurd (true≢false (sym e ∙ m.0))

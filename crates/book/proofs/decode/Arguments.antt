@@ -9,7 +9,7 @@ use lib.ListN.{length, drop, set, length-append}
 use lib.Seq.{sets}
 use Rattle.model.specs.Area.{term_words}
 use Rattle.model.specs.BookBytes.{parsed, unparsed, parse_arguments}
-use Rattle.book.specs.declared.parse.Advance.TheVariants.{Next}
+use Rattle.std.specs.Prelude.{Ok}
 use Rattle.book.specs.parse.Below.{parse_below}
 use Rattle.book.specs.parse.Parts.{AdvanceOf, ArgumentsIn}
 use Rattle.book.proofs.decode.Parsing.{behind, behind_none, behind_more, behind_refused, behind_last}
@@ -54,7 +54,7 @@ module _ (bytes : List ℕ) (at t count : ℕ) (rows₀ : List ℕ) where
         let left : count - i ≡ suc (count - (i + 1)) = omega arith in
         r.parse ∙ rw left (behind_refused t (count - (i + 1)) r.args (drop next bytes) k e)
 
-    pub read_all : count ≤ i → AdvanceOf bytes (parse_arguments t count (drop at bytes)) (ArgumentsIn t count rows₀ rows) (Next next)
+    pub read_all : count ≤ i → AdvanceOf bytes (parse_arguments t count (drop at bytes)) (ArgumentsIn t count rows₀ rows) (Ok next)
     read_all l =
         let left : count - i ≡ 0 = omega arith in
         let whole : i ≡ count = omega arith in

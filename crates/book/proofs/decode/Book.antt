@@ -1,6 +1,6 @@
 -- The terms of a book, one after the other: what holds after t of them (`Read`), at first, after one more, at a refusal and
 -- at the end. Assumes nothing.
-use mathlib.Core.Path.{◌≡◌, refl, sym, ap, subst, ◌∙◌}
+use mathlib.Core.Path.{◌≡◌, refl, sym, ap, ◌∙◌}
 use mathlib.Core.List.{List, [], ◌∷◌, ◌++◌}
 use Prim.Native.Nat.{ℕ, suc, ◌+◌, ◌*◌, ◌-◌, ◌<◌, ◌≤◌}
 use native.Mathlib.Nat.{sub-zero}
@@ -10,8 +10,9 @@ use Rattle.model.specs.Lists.{concat_map}
 use Rattle.model.specs.Term.{Node, Book}
 use Rattle.model.specs.Area.{term_words, node_words}
 use Rattle.model.specs.BookBytes.{Parsed, unparsed, and_then, parse_number, parse_node, parse_terms}
-use Rattle.book.specs.declared.parse.Advance.{Advance}
-use Rattle.book.specs.declared.parse.Advance.TheVariants.{Next, Refused}
+use Rattle.std.specs.Prelude.{Result, Ok, Err}
+use Rattle.refusal.specs.declared.Refusal.{Refusal}
+use Rattle.refusal.specs.Numbers.{number_of}
 use Rattle.book.specs.decode.Rows.{book_rows}
 use Rattle.book.specs.unread.Unread.{or_left, unread_terms}
 use Rattle.book.specs.parse.Parts.{AdvanceOf, TermIn, BookIn}
@@ -63,12 +64,12 @@ module _ (bytes : List ℕ) (at count size : ℕ) where
 
     module _ (rows' : List ℕ) where
       -- what the reader of a term promises
-      abbrev Answered : Advance → Type 0
+      abbrev Answered : Result ℕ Refusal → Type 0
       Answered = AdvanceOf bytes Term (TermIn t rows rows')
 
-      more : (after : ℕ) → term_words * count ≤ size → Answered (Next after) → Read bytes at count size rows' after (t + 1)
+      pub read_more : (after : ℕ) → term_words * count ≤ size → Answered (Ok after) → Read bytes at count size rows' after (t + 1)
       unfolding and_then or_left
-      more after m s =
+      read_more after m s =
           let x = s.0 in
           let term = s.3 in
           record {
@@ -82,24 +83,17 @@ module _ (bytes : List ℕ) (at count size : ℕ) where
             unread = next_unread ∙ rw s.1;
           }
 
-      pub read_more : (a : Advance) (after : ℕ) → term_words * count ≤ size → Answered a → a ≡ Next after
-          → Read bytes at count size rows' after (t + 1)
-      read_more a after m s e = more after m (subst Answered e s)
-
       -- at a refusal the outcome is that refusal, and the term that is refused is not read
-      pub read-refused : (a : Advance) (k : ℕ) → Answered a → a ≡ Refused k → parse_terms count [] (drop at bytes) ≡ unparsed k
+      pub read-refused : (e : Refusal) → Answered (Err e) → parse_terms count [] (drop at bytes) ≡ unparsed (number_of e)
       unfolding and_then
-      read-refused a k s e = let d : Term ≡ unparsed k = subst Answered e s in next-parsed ∙ rw d
+      read-refused e s = next-parsed ∙ rw s
 
-      pub unread_refused : (a : Advance) (k : ℕ) → Answered a → a ≡ Refused k
-          → (unread_terms count [] (drop at bytes) ≡ drop next bytes) × (next ≤ length bytes)
+      pub unread_refused : (e : Refusal) → Answered (Err e) → (unread_terms count [] (drop at bytes) ≡ drop next bytes) × (next ≤ length bytes)
       unfolding or_left
-      unread_refused a k s e =
-          let d : Term ≡ unparsed k = subst Answered e s in
-          (next_unread ∙ rw d, r.within)
+      unread_refused e s = (next_unread ∙ rw s, r.within)
 
   module _ (rows : List ℕ) (next t : ℕ) (r : Read bytes at count size rows next t) (l : count ≤ t) where
-    pub read_all : AdvanceOf bytes (parse_terms count [] (drop at bytes)) (BookIn count size rows) (Next next)
+    pub read_all : AdvanceOf bytes (parse_terms count [] (drop at bytes)) (BookIn count size rows) (Ok next)
     unfolding parse_terms
     read_all =
         let left : count - t ≡ 0 = omega arith in

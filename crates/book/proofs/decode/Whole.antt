@@ -13,9 +13,10 @@ use Rattle.model.specs.Lists.{is_empty}
 use Rattle.model.specs.Term.{Book}
 use Rattle.model.specs.BookBytes.{parsed, unparsed, and_then, need, parse_terms, parse_written, parse_book}
 use Rattle.theory.proofs.Book.Written.{none_written, some_written}
-use Rattle.theory.proofs.Book.Opening.{book_positive}
-use Rattle.book.specs.declared.parse.Advance.{Advance}
-use Rattle.book.specs.declared.parse.Advance.TheVariants.{Next, Refused}
+use Rattle.std.specs.Prelude.{Result, Ok, Err, OnOk}
+use Rattle.refusal.specs.declared.Refusal.{Refusal}
+use Rattle.refusal.specs.declared.Refusal.TheVariants.{LeftOver}
+use Rattle.refusal.specs.Numbers.{number_of, number, counted}
 use Rattle.book.specs.decode.Rows.{book_rows, decoded_refusal, decoded_book}
 use Rattle.book.specs.unread.Unread.{or_left, unread_terms, number_of_terms, unread_book, read_to}
 use Rattle.book.specs.parse.Below.{parse_below}
@@ -93,42 +94,41 @@ zeros-length size e = ap length e ∙ length-replicate {A = ℕ} size 0
 
 module _ (lim : Limits) (bytes : List ℕ) (size : ℕ) (rows : List ℕ) where
   -- refusal, number of terms and rows
-  abbrev Decoded : ℕ → ℕ → Type 0
-  Decoded refusal terms =
-      (refusal ≡ decoded_refusal (parse_book lim bytes)) ×
-      ((terms ≡ length (decoded_book (parse_book lim bytes))) ×
-      (refusal ≡ 0 → rows ≡ book_rows size (decoded_book (parse_book lim bytes))))
+  abbrev Decoded : Result ℕ Refusal → Type 0
+  Decoded r = record {
+    refusal : number r ≡ decoded_refusal (parse_book lim bytes);
+    terms : counted r ≡ length (decoded_book (parse_book lim bytes));
+    rows : OnOk r (rows ≡ book_rows size (decoded_book (parse_book lim bytes)));
+  }
 
-  refused-answer : (k : ℕ) → parse_book lim bytes ≡ unparsed k → Decoded k 0
+  refused-answer : (e : Refusal) → parse_book lim bytes ≡ unparsed (number_of e) → Decoded (Err e)
   unfolding decoded_refusal decoded_book
-  refused-answer k e = (rw e, (rw e, λ z. absurd (rw (e, z) at (book_positive lim bytes))))
+  refused-answer e q = record { refusal = rw q; terms = rw q; rows = tt }
 
-  book-answer : (n : ℕ) (b : Book) → parse_book lim bytes ≡ parsed b [] → BookIn n size rows b → Decoded 0 n
+  book-answer : (n : ℕ) (b : Book) → parse_book lim bytes ≡ parsed b [] → BookIn n size rows b → Decoded (Ok n)
   unfolding decoded_refusal decoded_book
-  book-answer n b e h = (rw e, (rw e (sym h.as_many), λ z. rw e h.written))
+  book-answer n b e h = record { refusal = rw e; terms = rw e (sym h.as_many); rows = rw e h.written }
 
   -- no bytes
-  pub no_bytes_lem : length bytes ≡ 0 → rows ≡ replicate size 0 → Decoded 0 0
+  pub no_bytes_lem : length bytes ≡ 0 → rows ≡ replicate size 0 → Decoded (Ok 0)
   no_bytes_lem none zeros = book-answer 0 [] (none_written lim bytes none) (record { as_many = refl; written = zeros ∙ rows_none size })
 
   -- refused at the count, at a term, and at what is left; and a whole book
-  pub refused-count : 0 < length bytes → (k : ℕ) → parse_below (lim.max_terms + 1) 4 bytes ≡ unparsed k → Decoded k 0
-  refused-count some k e = refused-answer k (count-refused lim bytes some k e)
+  module _ (some : 0 < length bytes) where
+    pub refused-count : (e : Refusal) → parse_below (lim.max_terms + 1) 4 bytes ≡ unparsed (number_of e) → Decoded (Err e)
+    refused-count e q = refused-answer e (count-refused lim bytes some (number_of e) q)
 
-  module _ (some : 0 < length bytes) (n next : ℕ) (e : parse_below (lim.max_terms + 1) 4 bytes ≡ parsed n (drop next bytes)) {words : ℕ} (long : words ≡ size) where
-    -- what the reader of terms promises
-    abbrev Answered : Advance → Type 0
-    Answered = AdvanceOf bytes (parse_terms n [] (drop next bytes)) (BookIn n words rows)
+    module _ (n next : ℕ) (e : parse_below (lim.max_terms + 1) 4 bytes ≡ parsed n (drop next bytes)) {words : ℕ} (long : words ≡ size) where
+      -- what the reader of terms promises
+      abbrev Answered : Result ℕ Refusal → Type 0
+      Answered = AdvanceOf bytes (parse_terms n [] (drop next bytes)) (BookIn n words rows)
 
-    pub refused-terms : (a : Advance) (k : ℕ) → Answered a → a ≡ Refused k → Decoded k 0
-    refused-terms a k s q = refused-answer k (terms-refused lim bytes some n (drop next bytes) e k (subst Answered q s))
+      pub refused-terms : (k : Refusal) → Answered (Err k) → Decoded (Err k)
+      refused-terms k s = refused-answer k (terms-refused lim bytes some n (drop next bytes) e (number_of k) s)
 
-    pub refused_end : (a : Advance) (end : ℕ) → Answered a → a ≡ Next end → end < length bytes → Decoded 3 0
-    refused_end a end s q l =
-        let d : Answered (Next end) = subst Answered q s in
-        refused-answer 3 (end_refused lim bytes some n (drop next bytes) e d.0 end d.1 l)
+      pub refused_end : (end : ℕ) → Answered (Ok end) → end < length bytes → Decoded (Err LeftOver)
+      refused_end end s l = refused-answer LeftOver (end_refused lim bytes some n (drop next bytes) e s.0 end s.1 l)
 
-    pub whole_book : (a : Advance) (end : ℕ) → Answered a → a ≡ Next end → length bytes ≤ end → Decoded 0 n
-    whole_book a end s q l =
-        let d : Answered (Next end) = subst Answered q s in
-        book-answer n d.0 (book_whole lim bytes some n (drop next bytes) e d.0 end d.1 l) (subst (λ k. BookIn n k rows d.0) long d.3)
+      pub whole_book : (end : ℕ) → Answered (Ok end) → length bytes ≤ end → Decoded (Ok n)
+      whole_book end s l =
+          book-answer n s.0 (book_whole lim bytes some n (drop next bytes) e s.0 end s.1 l) (subst (λ k. BookIn n k rows s.0) long s.3)

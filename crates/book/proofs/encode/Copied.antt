@@ -13,6 +13,9 @@ use Rattle.model.specs.Call.{refuse, emit, copy_parsed}
 use Rattle.theory.specs.Modest.{Modest}
 use Rattle.theory.proofs.Book.Round.{parsed_formed}
 use Rattle.theory.proofs.Book.Opening.{Positive}
+use Rattle.refusal.specs.declared.Refusal.{Refusal}
+use Rattle.refusal.specs.Numbers.{number_of}
+use Rattle.refusal.proofs.Numbers.{none_is_zero}
 use Rattle.layout.specs.limits.Rows.{book_of}
 use Rattle.runs.specs.Emits.{Writes}
 use Rattle.runs.proofs.Emitted.{writes}
@@ -27,9 +30,9 @@ pub record Decoded (size : ℕ) (p : Parsed Book) (rows : List ℕ) (terms : ℕ
 
 module _ (p : Parsed Book) (out : List ℕ) where
   -- a book that is refused
-  pub copied_refused : (n : ℕ) → n ≡ decoded_refusal p → (n ≡ 0 → ⊥) → Writes (copy_parsed out p) n 0 out
+  pub copied_refused : (k : Refusal) → number_of k ≡ decoded_refusal p → Writes (copy_parsed out p) (number_of k) 0 out
   unfolding refuse copy_parsed
-  copied_refused n e h = rw e (writes (ap (copy_parsed out) (outcome-refused p (λ z. h (e ∙ z)))) (refl, (refl, refl)))
+  copied_refused k e = rw e (writes (ap (copy_parsed out) (outcome-refused p (λ z. none_is_zero k (e ∙ z)))) (refl, (refl, refl)))
 
   -- one that is not, and what is emitted of its rows
   pub copied : {size : ℕ} {rows : List ℕ} {terms : ℕ} {β : Bindings} → Positive p → Decoded size p rows terms β

@@ -1,44 +1,30 @@
 -- The parts of decoding a book, by position, and what each part answers. Assumes nothing: these are definitions.
-use Rattle.std.specs.Prelude.{◌≡◌, List, [], ◌∷◌, ℕ, zero, suc, ◌+◌, ◌*◌, ◌≤◌, length, drop}
+use Rattle.std.specs.Prelude.{◌≡◌, List, [], ◌∷◌, ℕ, zero, suc, ◌+◌, ◌*◌, ◌≤◌, length, drop, Result, Ok, Err}
 use Rattle.std.proofs.lemmas.List.Edits.{sets}
+use Rattle.refusal.specs.declared.Refusal.{Refusal}
+use Rattle.refusal.specs.Numbers.{number_of}
 use Rattle.model.specs.Limits.{max_arity, max_symbol}
 use Rattle.model.specs.Term.{Node, var, app, Book}
 use Rattle.model.specs.BookBytes.{Parsed, parsed, unparsed, and_then, parse_arguments}
 use Rattle.model.specs.Area.{term_words}
 use Rattle.book.specs.parse.Below.{parse_below}
 use Rattle.book.specs.decode.Rows.{book_rows}
-use Rattle.book.specs.declared.parse.Advance.{Advance}
-use Rattle.book.specs.declared.parse.Advance.TheVariants.{Next, Refused}
 use Rattle.book.specs.declared.parse.Position.{Position}
 
 -- ---- a position in a term
 
--- At the term's start, and where the term is refused.
+-- At the term's start.
 abbrev pub start_at : ℕ → Position
-start_at next = record { next = next; refusal = 0; first = 0; count = 0 }
+start_at next = record { next = next; first = 0; count = 0 }
 
-abbrev pub refused_at : ℕ → Position
-refused_at k = record { next = 0; refusal = k; first = 0; count = 0 }
-
--- As an answer: the position, or the refusal (0 is none).
-abbrev pub answer : ℕ → ℕ → Advance
-answer zero next = Next next
-answer (suc k) next = Refused (suc k)
-
-abbrev pub advance_of : Position → Advance
-advance_of p = answer p.refusal p.next
-
--- By its refusal: what was read, and the bytes that follow, or the refusal.
-unfoldable pub outcome : {A : Type 0} → ℕ → List ℕ → A → Parsed A
-outcome zero rest a = parsed a rest
-outcome (suc k) rest a = unparsed (suc k)
-
--- A position as an outcome: behind the term's first number, and behind its count too.
-unfoldable pub first_read : List ℕ → Position → Parsed ℕ
-first_read bytes p = outcome p.refusal (drop p.next bytes) p.first
-
+-- A position behind a term's head as an outcome: what was read, and the bytes that follow.
 unfoldable pub head_read : List ℕ → Position → Parsed (ℕ × ℕ)
-head_read bytes p = outcome p.refusal (drop p.next bytes) (p.first, p.count)
+head_read bytes p = parsed (p.first, p.count) (drop p.next bytes)
+
+-- By an answer: what was read, and the bytes that follow, or the refusal.
+unfoldable pub outcome : {A B : Type 0} → Result A Refusal → List ℕ → B → Parsed B
+outcome (Ok a) rest b = parsed b rest
+outcome (Err e) rest b = unparsed (number_of e)
 
 -- ---- a term, part by part
 
@@ -66,22 +52,11 @@ node_row (app s args) = suc s ∷ length args ∷ args
 
 -- The outcome p is what a part answers, case by case: the bytes after it begin at `next`, which is a position of the bytes or
 -- their end, and P holds of what was decoded; or the refusal.
-abbrev pub AdvanceOf : {A : Type 0} → List ℕ → Parsed A → (A → Type 0) → Advance → Type 0
-AdvanceOf {A} bytes p P (Next next) = (a : A) × (p ≡ parsed a (drop next bytes)) × (next ≤ length bytes) × P a
-AdvanceOf {A} bytes p P (Refused k) = p ≡ unparsed k
+abbrev pub AdvanceOf : {A : Type 0} → List ℕ → Parsed A → (A → Type 0) → Result ℕ Refusal → Type 0
+AdvanceOf {A} bytes p P (Ok next) = (a : A) × (p ≡ parsed a (drop next bytes)) × (next ≤ length bytes) × P a
+AdvanceOf {A} bytes p P (Err e) = p ≡ unparsed (number_of e)
 
--- p is behind the first number of the term at `at`, or refused.
-pub record SymbolRead (bytes : List ℕ) (at : ℕ) (p : Position) : Type 0 where
-  pub reads : first_read bytes p ≡ parse_below (suc (suc max_symbol)) 4 (drop at bytes)
-  pub within : p.next ≤ length bytes
-
--- q is behind the count that follows p, or refused.
-pub record CountRead (bytes : List ℕ) (p q : Position) : Type 0 where
-  pub reads : head_read bytes q ≡ and_then (first_read bytes p) parse_count
-  pub within : q.next ≤ length bytes
-  pub few : q.count ≤ max_arity
-
--- q is behind the head of the term at `at`, or refused.
+-- q is behind the head of the term at `at`.
 pub record HeadRead (bytes : List ℕ) (at : ℕ) (q : Position) : Type 0 where
   pub reads : head_read bytes q ≡ parse_head (drop at bytes)
   pub within : q.next ≤ length bytes

@@ -1,15 +1,13 @@
 -- The pairs of a table's sides, each number under a function, pushed in order: what each push answers. Assumes nothing.
-use Rattle.std.proofs.Common.{◌≡◌, refl, ap, sym, ◌∙◌, List, ◌++◌, map, ℕ, ◌+◌, ◌<◌, not-suc-le-zero, add-one, arith, below_more, length, get_or, drop, set, replicate, T}
+use Rattle.std.proofs.Common.{◌≡◌, ap, sym, ◌∙◌, List, map, ℕ, ◌+◌, ◌<◌, not-suc-le-zero, add-one, arith, below_more, length, get_or, set, T}
 use Rattle.model.specs.Term.{Book, Bindings, name}
 use Rattle.model.specs.Table.{Entry, Table, hole_at, entry, entry_of}
 use Rattle.model.specs.Area.{distinct}
 use Rattle.theory.proofs.Soundness.Table.{distinct_facts, facts_distinct}
 use Rattle.theory.proofs.Table.Search.{get_or-map-lt}
 use Rattle.pairs.specs.Pairs.{place_of}
-use Rattle.pairs.specs.Index.{buckets, Room, Indexed, Pushed}
+use Rattle.pairs.specs.Index.{Indexed, Pushed}
 use Rattle.pairs.proofs.Laws.{Holds, Kept, place-least, place_none, place_at, place_kept, kept_set, holds-set}
-use Rattle.pairs.proofs.Rooms.{room_kept}
-use Rattle.pairs.proofs.Growth.{indexed-none}
 use Rattle.soundness.specs.kinds.Sides.{SideNames}
 use Rattle.soundness.proofs.kinds.Names.{entry_of-place}
 
@@ -40,11 +38,10 @@ module _ (f : ℕ → ℕ) (es : Table) where
       }
 
   -- none are pushed
-  pub filled_none : {lefts rights cells cells₀ : List ℕ} {m : ℕ} → Room lefts rights cells₀ m
-      → cells ≡ replicate buckets 0 ++ drop buckets cells₀ → length cells ≡ length cells₀ → Filled f es lefts rights cells 0
-  filled_none {cells₀ = cells₀} room e same =
+  pub filled_none : {lefts rights cells : List ℕ} → Indexed lefts rights cells 0 → Filled f es lefts rights cells 0
+  filled_none none =
       record {
-        indexed = indexed-none (room_kept room refl refl same) cells₀ e;
+        indexed = none;
         kept = record { left = λ j l. absurd (not-suc-le-zero l); right = λ j l. absurd (not-suc-le-zero l) };
       }
 

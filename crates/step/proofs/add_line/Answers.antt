@@ -1,11 +1,6 @@
 -- What adding a line answers, test by test, and the words that an accepted line leaves. Assumes nothing.
-use mathlib.Core.Path.{◌≡◌, refl, ◌∙◌}
-use mathlib.Core.List.{List, [], ◌∷◌}
-use Prim.Native.Nat.{ℕ, ◌+◌, ◌*◌, ◌≤◌, ◌<◌}
-use native.Mathlib.Omega.{arith}
-use borrow.Author.Tests.{lt-ltb, le-ltb, le-leb, lt-leb}
-use lib.Dec.{leb}
-use lib.ListN.{length, set, length-append, length-set}
+use Rattle.std.proofs.Common.{◌≡◌, refl, ◌∙◌, List, [], ◌∷◌, ℕ, ◌+◌, ◌*◌, ◌≤◌, ◌<◌, arith, lt-ltb, le-ltb, le-leb, leb, length, set, length-append, length-set, suc, Ok, Err}
+use borrow.Author.Tests.{lt-leb}
 use Rattle.model.specs.Limits.{Limits}
 use Rattle.model.specs.Step.{State, refused, accepted, require, saturate, add_line}
 use Rattle.model.specs.Area.{entry_row_words}
@@ -17,7 +12,6 @@ use Rattle.soundness.proofs.sound.Parts.{Holds}
 use Rattle.pairs.specs.Index.{Room}
 use Rattle.area.specs.load.Ready.{Ready}
 use Rattle.area.proofs.load.Uses.{ready_facts, ready-sized, ready-holds}
-use Rattle.std.specs.Prelude.{suc, Ok, Err}
 use Rattle.refusal.specs.declared.Refusal.{Refusal}
 use Rattle.refusal.specs.declared.Refusal.TheVariants.{NamesNothing, TooManyLines}
 use Rattle.refusal.specs.Numbers.{number_of}

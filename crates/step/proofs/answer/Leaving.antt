@@ -1,8 +1,5 @@
 -- From the parts after a step to the words of the state that it leaves. Assumes nothing.
-use mathlib.Core.Path.{◌≡◌, refl}
-use mathlib.Core.List.{List}
-use Prim.Native.Nat.{ℕ, ◌*◌}
-use lib.ListN.{length}
+use Rattle.std.proofs.Common.{◌≡◌, refl, List, ℕ, ◌*◌, length, Ok, Err}
 use Rattle.model.specs.Limits.{Limits}
 use Rattle.model.specs.Lists.{concat_map, padded}
 use Rattle.model.specs.Table.{Table}
@@ -10,7 +7,6 @@ use Rattle.model.specs.Step.{State, Answer, refused, accepted}
 use Rattle.model.specs.Area.{entry_row_words, entry_words}
 use Rattle.layout.specs.limits.Rows.{Loaded, Sized}
 use Rattle.soundness.proofs.sound.Parts.{Holds, whole}
-use Rattle.std.specs.Prelude.{Ok, Err}
 use Rattle.refusal.specs.declared.Refusal.{Refusal}
 use Rattle.refusal.specs.Numbers.{number_of}
 use Rattle.refusal.proofs.Numbers.{numbers_tell, none_is_zero}

@@ -1,10 +1,5 @@
 -- From a loaded, sound state to what the functions of the pair table ask. Assumes nothing.
-use mathlib.Core.Path.{◌≡◌}
-use mathlib.Core.List.{List, []}
-use Prim.Native.Nat.{ℕ, ◌*◌}
-use native.Mathlib.Omega.{arith}
-use lib.ListN.{length}
-use lib.Dec.{T}
+use Rattle.std.proofs.Common.{◌≡◌, List, [], ℕ, ◌*◌, arith, length, T}
 use Rattle.model.specs.Limits.{Limits}
 use Rattle.model.specs.Lists.{all, from}
 use Rattle.model.specs.Term.{Bindings}

@@ -1,13 +1,6 @@
 -- A choice on a loaded state: what the tests before the walk leave to the rest, and the answer. Assumes nothing.
-use mathlib.Core.Path.{◌≡◌, refl, sym, ◌∙◌}
-use mathlib.Core.List.{List}
-use mathlib.Core.Bool.{Bool, true, false}
+use Rattle.std.proofs.Common.{◌≡◌, refl, sym, ◌∙◌, List, Bool, true, false, ℕ, ◌+◌, ◌≤◌, ◌<◌, arith, ne_eqb, leb-true, length, set, length-set, leb, Result, Err}
 use mathlib.Core.Option.{some}
-use Prim.Native.Nat.{ℕ, ◌+◌, ◌≤◌, ◌<◌}
-use native.Mathlib.Omega.{arith}
-use borrow.Author.Tests.{ne_eqb, leb-true}
-use lib.ListN.{length, set, length-set}
-use lib.Dec.{leb}
 use Rattle.model.specs.Limits.{Limits}
 use Rattle.model.specs.Table.{settle}
 use Rattle.model.specs.Step.{State, require, accepted, bind}
@@ -26,7 +19,6 @@ use Rattle.pairs.proofs.Rooms.{room_kept}
 use Rattle.values.proofs.evaluate.Rooms.{fewer_terms}
 use Rattle.pairs.proofs.Rooms.{room_fewer}
 use Rattle.area.proofs.load.Uses.{ready_facts, ready-holds}
-use Rattle.std.specs.Prelude.{Result, Err}
 use Rattle.refusal.specs.declared.Refusal.{Refusal}
 use Rattle.refusal.specs.declared.Refusal.TheVariants.{Full}
 use Rattle.refusal.specs.Numbers.{number_of}

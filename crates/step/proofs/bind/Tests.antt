@@ -1,13 +1,6 @@
 -- The tests of a choice before the walk. Assumes nothing.
-use mathlib.Core.Path.{◌≡◌, refl}
-use mathlib.Core.List.{List, [], ◌∷◌}
-use mathlib.Core.Bool.{Bool, true, false, cond, not}
+use Rattle.std.proofs.Common.{◌≡◌, refl, List, [], ◌∷◌, Bool, true, false, cond, not, ℕ, ◌*◌, ◌-◌, ◌≤◌, ◌<◌, arith, ltb-true, lt-ltb, le-ltb, length, get_or, eqb, ltb, leb}
 use mathlib.Core.Option.{none, some}
-use Prim.Native.Nat.{ℕ, ◌*◌, ◌-◌, ◌≤◌, ◌<◌}
-use native.Mathlib.Omega.{arith}
-use borrow.Author.Tests.{ltb-true, lt-ltb, le-ltb}
-use lib.ListN.{length, get_or}
-use lib.Dec.{eqb, ltb, leb}
 use Rattle.model.specs.Term.{var, Book, Bindings, val, occurs}
 use Rattle.model.specs.Step.{State, Answer, refused, accepted, require, saturate, is_free, turned, bind}
 use Rattle.model.specs.Area.{term_words}

@@ -1,14 +1,7 @@
 -- The word of a binding that is set. Assumes nothing.
-use mathlib.Core.Path.{◌≡◌, sym, ap, ◌∙◌}
-use mathlib.Core.List.{List, map}
+use Rattle.std.proofs.Common.{◌≡◌, sym, ap, ◌∙◌, List, map, ℕ, ◌+◌, ◌≤◌, ◌<◌, arith, length, get_or, set, length-set, ext_get_or, get_or-set_same, get_or-set_other, drop-set-lt, T, ne_eqb}
 use mathlib.Core.Option.{none, some}
-use Prim.Native.Nat.{ℕ, ◌+◌, ◌≤◌, ◌<◌}
-use native.Mathlib.Omega.{arith}
 use native.Mathlib.Decide.{ℕ_discrete}
-use lib.ListN.{length, get_or, set, length-set}
-use lib.Seq.{ext_get_or, get_or-set_same, get_or-set_other, drop-set-lt}
-use lib.Dec.{T}
-use borrow.Author.Tests.{ne_eqb}
 use Rattle.model.specs.Lists.{padded}
 use Rattle.model.specs.Area.{binding_word}
 use Rattle.layout.specs.limits.Rows.{binding_of, bound_of}

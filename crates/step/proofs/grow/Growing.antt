@@ -1,7 +1,5 @@
 -- Placing a pair in a loaded table and walking it through: what each part asks, and what they come to. Assumes nothing.
-use mathlib.Core.List.{List}
-use Prim.Native.Nat.{ℕ, suc}
-use native.Mathlib.Omega.{arith}
+use Rattle.std.proofs.Common.{List, ℕ, suc, arith}
 use Rattle.model.specs.Term.{Book, Bindings}
 use Rattle.model.specs.Table.{Table, place, walk}
 use Rattle.theory.proofs.Table.Place.{walk_extends}

@@ -1,9 +1,5 @@
 -- A table under bindings that have changed: with the terms named anew it can be indexed, and then walked through. Assumes nothing.
-use mathlib.Core.Path.{◌≡◌, sym}
-use mathlib.Core.List.{List}
-use Prim.Native.Nat.{ℕ, ◌≤◌}
-use native.Mathlib.Omega.{arith}
-use lib.ListN.{length}
+use Rattle.std.proofs.Common.{◌≡◌, sym, List, ℕ, ◌≤◌, arith, length}
 use Rattle.layout.specs.limits.Rows.{book_of, bound_of, table_of}
 use Rattle.layout.proofs.limits.Rows.{length-book_of, length-table_of}
 use Rattle.layout.specs.declared.header.Header.{Header}

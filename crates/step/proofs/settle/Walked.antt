@@ -1,16 +1,11 @@
 -- A table walked through and settled: the answer. Assumes nothing.
-use mathlib.Core.List.{List, [], ◌∷◌}
-use mathlib.Core.Bool.{not, ◌&&◌}
-use Prim.Native.Nat.{ℕ, suc, ◌-◌, ◌≤◌, zero-le}
-use native.Mathlib.Omega.{arith}
-use borrow.Author.Tests.{le-leb, lt-leb}
-use lib.ListN.{length}
+use Rattle.std.proofs.Common.{List, [], ◌∷◌, not, ◌&&◌, ℕ, suc, ◌-◌, ◌≤◌, zero-le, arith, le-leb, length, Ok, Err}
+use borrow.Author.Tests.{lt-leb}
 use Rattle.model.specs.Term.{Book, Bindings}
 use Rattle.model.specs.Table.{Table, is_hole, walk, settle}
 use Rattle.model.specs.Step.{turned}
 use Rattle.theory.proofs.Table.Place.{walk_extends}
 use Rattle.layout.specs.declared.header.Header.{Header}
-use Rattle.std.specs.Prelude.{Ok, Err}
 use Rattle.refusal.specs.declared.Refusal.{Refusal}
 use Rattle.table.specs.place.Stands.{HoldsTable, IsFull, GivenTable, Whatever}
 use Rattle.table.proofs.place.Placing.{few-entries}

@@ -1,15 +1,11 @@
 -- What a step asks and gives, whichever it is. Assumes nothing.
-use mathlib.Core.Path.{◌≡◌}
-use mathlib.Core.List.{List}
-use Prim.Native.Nat.{ℕ}
-use native.Mathlib.Omega.{arith}
+use Rattle.std.proofs.Common.{◌≡◌, List, ℕ, arith, Result}
 use Rattle.model.specs.Limits.{Limits}
 use Rattle.model.specs.Step.{State, add_line, bind}
 use Rattle.layout.specs.limits.Rows.{Loaded, loaded_state}
 use Rattle.pairs.specs.Index.{Room}
 use Rattle.area.specs.load.Ready.{Lent, Ready}
 use Rattle.area.proofs.load.Uses.{ready_facts}
-use Rattle.std.specs.Prelude.{Result}
 use Rattle.refusal.specs.declared.Refusal.{Refusal}
 use Rattle.step.specs.declared.answer.Step.{Step}
 use Rattle.step.specs.declared.answer.Step.TheVariants.{Add, Bind}

@@ -1,12 +1,8 @@
 -- Rows that hold a table: what is read there, and what is put there. Assumes nothing.
-use mathlib.Core.Path.{◌≡◌, ap, sym, ◌∙◌}
-use mathlib.Core.List.{List, [], ◌∷◌, ◌++◌, append_assoc, append-nil}
-use mathlib.Core.Logic.{◌⊎◌, inl, inr}
-use Prim.Native.Nat.{ℕ, zero, suc, ◌*◌, ◌-◌, ◌≤◌, ◌<◌}
-use native.Mathlib.Numerals.{unary_clauses}
-use native.Mathlib.Omega.{arith}
-use lib.ListN.{length, get_or, take, drop, set, replicate, length-append, length-set, get_or-append}
-use lib.Seq.{paste, length-paste, length-take-le, take_at, drop_at, split_at, set_split, take_all, get_or-take, get_or-append_seam, get_or-set_same, get_or-set_other}
+use Rattle.std.proofs.Common.{◌≡◌, ap, sym, ◌∙◌, List, [], ◌∷◌, ◌++◌, append_assoc, append-nil, ◌⊎◌, inl, inr, ℕ, zero, suc, ◌*◌, ◌-◌, ◌≤◌, ◌<◌, arith, length, get_or, take, drop, set, replicate, length-append, length-set, length-take-le, take_at, drop_at, take_all, get_or-take, get_or-set_same, get_or-set_other}
+use Rattle.std.proofs.Math.Numerals.{unary_clauses}
+use Rattle.std.proofs.Math.ListN.{get_or-append}
+use Rattle.std.proofs.Math.Seq.{paste, length-paste, split_at, set_split, get_or-append_seam}
 use Rattle.model.specs.Lists.{concat_map, padded}
 use Rattle.model.specs.Table.{Entry, Table, hole_at, entry}
 use Rattle.model.specs.Area.{entry_row_words, entry_words}

@@ -1,11 +1,6 @@
 -- Setting same-as: after i entries those have it, and the others are as they were. Assumes nothing.
-use mathlib.Core.Path.{◌≡◌, ap, sym, ◌∙◌}
-use mathlib.Core.List.{List, [], ◌∷◌, ◌++◌, append-nil, append_assoc}
-use Prim.Native.Nat.{ℕ, suc, ◌+◌, ◌*◌, ◌≤◌, ◌<◌}
-use native.Mathlib.Numerals.{add-one}
-use native.Mathlib.Omega.{arith}
-use lib.ListN.{length, take, drop, set, length-append, drop_of_length-le}
-use lib.Seq.{paste, take_at, set_at, get_or_at, take_all, take-suc, drop-cons, length-take-le}
+use Rattle.std.proofs.Common.{◌≡◌, ap, sym, ◌∙◌, List, [], ◌∷◌, ◌++◌, append-nil, append_assoc, ℕ, suc, ◌+◌, ◌*◌, ◌≤◌, ◌<◌, add-one, arith, length, take, drop, set, length-append, drop_of_length-le, take_at, take_all, take-suc, drop-cons, length-take-le}
+use Rattle.std.proofs.Math.Seq.{paste, set_at, get_or_at}
 use Rattle.model.specs.Term.{Book, Bindings}
 use Rattle.model.specs.Table.{Entry, Table, hole_at, entry, entry_of, settle}
 use Rattle.model.specs.Area.{entry_row_words, entry_words, kind_words}

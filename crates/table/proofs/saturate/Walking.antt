@@ -1,15 +1,6 @@
 -- The walk of a table in slices: after i visits they hold the table that a walk of i steps makes, and the entries from i on are as
 -- they were. Assumes nothing.
-use mathlib.Core.Path.{◌≡◌, refl, sym, ◌∙◌}
-use mathlib.Core.List.{List}
-use mathlib.Core.Bool.{true, cond, ◌&&◌}
-use mathlib.Core.Logic.{◌⊎◌, inl, inr}
-use Prim.Native.Nat.{ℕ, suc, ◌+◌, ◌-◌, ◌≤◌, ◌<◌}
-use native.Mathlib.Nat.{zero-add}
-use native.Mathlib.Omega.{arith}
-use borrow.Author.Tests.{lt-ltb, le-ltb}
-use lib.ListN.{length}
-use lib.Dec.{ltb}
+use Rattle.std.proofs.Common.{◌≡◌, refl, sym, ◌∙◌, List, true, cond, ◌&&◌, ◌⊎◌, inl, inr, ℕ, suc, ◌+◌, ◌-◌, ◌≤◌, ◌<◌, zero-add, arith, lt-ltb, le-ltb, length, ltb}
 use Rattle.model.specs.Term.{Node, arguments, Book, Bindings}
 use Rattle.model.specs.Table.{is_hole, Table, entry, turn, visit, walk}
 use Rattle.model.specs.Step.{turned}

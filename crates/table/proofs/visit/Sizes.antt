@@ -1,8 +1,5 @@
 -- The slices of a table keep their lengths. Assumes nothing.
-use mathlib.Core.Path.{◌≡◌, refl, ◌∙◌}
-use mathlib.Core.List.{List}
-use Prim.Native.Nat.{ℕ}
-use lib.ListN.{length}
+use Rattle.std.proofs.Common.{◌≡◌, refl, ◌∙◌, List, ℕ, length}
 
 pub record SameSizes (entries lefts rights cells entries' lefts' rights' cells' : List ℕ) : Type 0 where
   pub entries_size : length entries' ≡ length entries

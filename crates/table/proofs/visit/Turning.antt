@@ -1,11 +1,6 @@
 -- Turning an entry in slices: its argument pairs are placed, and its row is put anew. Assumes nothing.
-use mathlib.Core.Path.{◌≡◌, ap, sym, ◌∙◌}
-use mathlib.Core.List.{List, []}
-use mathlib.Core.Bool.{true}
-use Prim.Native.Nat.{ℕ, ◌+◌, ◌*◌, ◌-◌, ◌≤◌, ◌<◌}
-use native.Mathlib.Omega.{arith}
-use lib.ListN.{length, get_or, length-append}
-use lib.Seq.{paste, get_or_at}
+use Rattle.std.proofs.Common.{◌≡◌, ap, sym, ◌∙◌, List, [], true, ℕ, ◌+◌, ◌*◌, ◌-◌, ◌≤◌, ◌<◌, arith, length, get_or, length-append}
+use Rattle.std.proofs.Math.Seq.{paste, get_or_at}
 use Rattle.model.specs.Limits.{max_arity}
 use Rattle.model.specs.Lists.{pairwise}
 use Rattle.model.specs.Term.{Node, symbol, arguments, alike, Book, Bindings}

@@ -1,11 +1,6 @@
 -- A visit of an entry in slices: it is common, or its roots are not alike, or it turns. Assumes nothing.
-use mathlib.Core.Path.{◌≡◌, refl, sym, ◌∙◌}
-use mathlib.Core.List.{List, ◌++◌}
-use mathlib.Core.Bool.{true, false, ◌&&◌, and-false}
-use mathlib.Core.Logic.{inl, inr}
-use Prim.Native.Nat.{ℕ, ◌+◌, ◌*◌, ◌≤◌, ◌<◌}
-use native.Mathlib.Omega.{arith}
-use lib.ListN.{length, get_or, take, drop}
+use Rattle.std.proofs.Common.{◌≡◌, refl, sym, ◌∙◌, List, ◌++◌, true, false, ◌&&◌, inl, inr, ℕ, ◌+◌, ◌*◌, ◌≤◌, ◌<◌, arith, length, get_or, take, drop}
+use mathlib.Core.Bool.{and-false}
 use Rattle.model.specs.Lists.{padded}
 use Rattle.model.specs.Term.{alike, Book, Bindings, root}
 use Rattle.model.specs.Table.{Kind, hole, common, is_hole, Table, entry, turn, visit}

@@ -1,5 +1,5 @@
 -- `entries::same_as_ok`: what each push answers, and each return follows it. Assumes nothing.
-use Rattle.std.proofs.Common.{◌≡◌, ap, sym, ◌∙◌, below_none, below_more, arith}
+use Rattle.std.proofs.Common.{rules, ◌≡◌, ap, sym, ◌∙◌, below_none, below_more, arith}
 use Rattle.std.proofs.lemmas.Bool.{false≢true, eq-eqb, ne_eqb}
 use Rattle.model.specs.Table.{hole_at}
 use Rattle.layout.specs.limits.Rows.{at, table_of}
@@ -15,7 +15,8 @@ use Rattle.soundness.proofs.entries.same_as_ok.Goals.{After-push-place, then-pla
 pub loop-i-init : goal.loop-i-init
 loop-i-init c =
     record {
-      filled = filled_none _ _ c.requires.room c.clear.ensures c.clear.auto.words;
+      filled = filled_none _ _ c.clear.ensures.indexed;
+      same = c.clear.ensures.same_slices;
       right = λ b β k. below_none _;
       own = λ e. below_none _;
     }
@@ -34,7 +35,7 @@ place : (c : After-push-place) → let a = c.args in c.push-place.result ≡ pla
 place c =
     let l = c.loop-i-test.true in
     let f = at c.args.names.now in
-    filled_place _ _ (rw length-table_of l) c.loop-i.invariant.filled c.push-place.ensures (ap f (sym (entry-left _ _ _ l))) (ap f (sym (entry-right _ _ _ l)))
+    filled_place _ _ (rw length-table_of l) c.loop-i.invariant.filled c.push-place.ensures.pushed (ap f (sym (entry-left _ _ _ l))) (ap f (sym (entry-right _ _ _ l)))
 
 pub returns-then-place-entries-clause-right : goal.returns-then-place-entries-clause-right
 returns-then-place-entries-clause-right c b β k =
@@ -49,7 +50,8 @@ loop-i-preserved c =
     let h = c.loop-i.invariant in
     let at-place = place (goal.at.loop-i-preserved c).After-push-place in
     record {
-      filled = filled_more _ _ (rw length-table_of l) h.filled c.push-place.ensures (ap f (sym (entry-left _ _ _ l))) (ap f (sym (entry-right _ _ _ l))) (omega arith) (omega arith);
+      filled = filled_more _ _ (rw length-table_of l) h.filled c.push-place.ensures.pushed (ap f (sym (entry-left _ _ _ l))) (ap f (sym (entry-right _ _ _ l))) (omega arith) (omega arith);
+      same = search rules;
       right = λ b β k. below_more _ _ (h.right b β k) (same_as_place k l ∙ eq-eqb _ _ (sym c.if-place-entries.false ∙ at-place));
       own = λ e. elim c.if-place-i.branch [
         | then-place-i w ↦ absurd (false≢true (sym w.apart-is ∙ e))

@@ -9,12 +9,14 @@ use Rattle.soundness.specs.entries.SameAsTest.{same_as_right}
 use Rattle.soundness.proofs.rows.Loops.{Passed}
 use Rattle.soundness.proofs.distinct.Places.{Filled}
 use Rattle.soundness.proofs.distinct.Own.{own_place}
+use Rattle.pairs.specs.Lent.{SameSlices}
 use Rattle.soundness.proofs.entries.same_as_ok.Given as goal
 
 abbrev pub invariant-loop-i : goal.invariant-loop-i
 invariant-loop-i l =
     record {
-      filled : Filled (at l.names) (table_of l.entries l.m) l.lefts l.rights l.cells l.i;
+      same : SameSlices l.fn.index l.index;
+      filled : Filled (at l.names) (table_of l.entries l.m) l.index.lefts.now l.index.rights.now l.index.cells.now l.i;
       right : (b : Book) (β : Bindings) → Named b β l.names l.entries l.m
           → Passed (λ j. same_as_right b β (table_of l.entries l.m) (entry (table_of l.entries l.m) j)) l.i;
       own : l.apart ≡ true → Passed (own_place (at l.names) (table_of l.entries l.m)) l.i;

@@ -1,7 +1,6 @@
 -- `bind::is_free` meets its contract: the first word of the row and the word of the binding say whether it is free. Assumes
 -- nothing.
-use Rattle.std.proofs.Common.{◌∙◌}
-use borrow.Author.Tests.{ne_eqb}
+use Rattle.std.proofs.Common.{◌∙◌, ne_eqb}
 use Rattle.step.proofs.bind.Tests.{not_a_variable, a_variable}
 use Rattle.step.proofs.bind.is_free.Goals as goal
 

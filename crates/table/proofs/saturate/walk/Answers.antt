@@ -1,7 +1,6 @@
 -- `saturate::walk` meets its contract: each visit is one step of the walk. Assumes nothing.
-use Rattle.std.proofs.Common.{rules, ◌≡◌, ◌+◌, cond, ◌&&◌, ltb, arith}
+use Rattle.std.proofs.Common.{rules, ◌≡◌, ◌+◌, cond, ◌&&◌, ltb, arith, lt-ltb, le-ltb}
 use mathlib.Core.Bool.{and-false}
-use borrow.Author.Tests.{lt-ltb, le-ltb}
 use Rattle.std.proofs.lemmas.Result.{err_from_is_err_and}
 use Rattle.table.proofs.saturate.Walking.{walking_none, walking_full, walking_more, walking_all}
 use Rattle.table.proofs.saturate.walk.Goals as goal

@@ -8,6 +8,7 @@ ghost use Rattle.layout.specs.limits.Rows.{Sized, loaded_state};
 ghost use Rattle.layout.specs.header.Held.{held};
 ghost use Rattle.pairs.specs.Lent.{SameSlices};
 ghost use Rattle.area.specs.load.Ready.{Lent, Ready};
+ghost use Rattle.refusal.specs.Numbers.{number};
 ghost use Rattle.step.specs.answer.Stepped.{answer_of, header_after, Gives};
 ghost use Rattle.step.specs.take.Taking.{step_of, state_after, stored_bytes};
 
@@ -50,16 +51,21 @@ pub fn take(
     }
 }
 
-// Stores the state after an accepted step: `state` has what the slices hold after it, under the header before it.
-pub fn keep(lim: Limits, area: &mut [u8], s: Stepped, state: Held)
+// Stores the state after a step that was accepted: `state` has what the slices hold after it, under the header before it. A refused
+// one changes no byte.
+#[tactic(auto, using(refusal::proofs::Numbers::none_is_zero), unfolding(crate::specs::take::Taking::stored_bytes))]
+pub fn keep(lim: Limits, area: &mut [u8], s: Result<Stepped, Refusal>, state: Held)
     requires fits { area_length (limits_of lim) state.header.capacity ≤ length area.old }
-    requires sized { Sized (limits_of lim) (state_after s state) }
-    ensures { area.new ≡ stored_bytes (state_after s state.entry) area.old }
+    requires sized { number s ≡ 0 → Sized (limits_of lim) (state_after s state) }
+    ensures { area.new ≡ stored_bytes (number s) (state_after s state.entry) area.old }
 {
-    let header = Header {
-        entries: s.entries,
-        lines: s.lines,
-        ..state.header
+    let header = match s {
+        Ok(s) => Header {
+            entries: s.entries,
+            lines: s.lines,
+            ..state.header
+        },
+        Err(_) => return,
     };
     let after = Held { header, ..state };
     after.store(lim, area);

@@ -4,7 +4,6 @@ use Rattle.std.proofs.Common.{sym, arith}
 use Rattle.std.proofs.lemmas.Result.{err_from_is_err_and}
 use Rattle.book.proofs.encode.BookHeld.{held-encodable, held-few}
 use Rattle.book.proofs.encode.Copied.{book_decoded, decoded_few}
-use Rattle.archive.proofs.moving.Held.{held_rows}
 use Rattle.archive.proofs.storing.Storing.{listed-room, places-room, moved-room, moved-blank, part_fits, part_long, store_refused, long, listed-low, distinct, small-list, lists_moved, stored_held, stored_bytes_lem, stored_written, inverted}
 use Rattle.archive.proofs.storing.store.Goals as goal
 
@@ -32,13 +31,6 @@ pub slice_bounds-places-end-2 : goal.slice_bounds-places-end-2
 slice_bounds-places-end-2 c =
     let e = c.in_ok-terms.ensures in
     sym (part_long _ _ (book_decoded _ c.requires.modest _ _ _ (sym e.refusal) e.terms e.rows) _ (places-room c.requires.lent))
-
-pub variables_first-requires : goal.variables_first-requires
-variables_first-requires c =
-    let e = c.in_ok-terms.ensures in
-    let d = book_decoded _ c.requires.modest _ _ _ (sym e.refusal) e.terms e.rows in
-    let many = part_long _ _ d _ (listed-room c.requires.lent) in
-    (rw many (held_rows d.held), omega (arith, many, decoded_few _ _ d, c.requires.modest.terms))
 
 pub invert-requires : goal.invert-requires
 invert-requires c =

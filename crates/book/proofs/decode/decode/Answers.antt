@@ -1,6 +1,5 @@
 -- No bytes are the book without terms; of some, the number of terms is within the limit, the terms follow, and no byte is left.
-use Rattle.std.proofs.Common.{◌*◌, ◌<◌, length, arith}
-use borrow.Author.Tests.{true-eqb, false-eqb}
+use Rattle.std.proofs.Common.{◌*◌, ◌<◌, length, arith, true-eqb, false-eqb}
 use Rattle.std.proofs.lemmas.Result.{err_from_is_err_and}
 use Rattle.refusal.specs.declared.Refusal.TheVariants.{OutOfRange}
 use Rattle.model.specs.Area.{term_words}

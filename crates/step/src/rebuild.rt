@@ -9,6 +9,7 @@ use crate::answer::Stepped;
 use layout::header::Header;
 use pairs::Index;
 use refusal::Refusal;
+use table::visit::NamedTerms;
 
 // The table under bindings that have changed: the terms are named anew, the sides of the entries indexed by their new names, and
 // the table walked through. No value contains itself here, so the test of that never refuses.
@@ -32,5 +33,6 @@ pub fn rebuild(
     }
     let m = h.entries as usize;
     table::index::index(names, entries, m, index);
-    crate::settle::walk_and_settle(h, rows, roots, names, entries, index)
+    let terms = NamedTerms { rows, roots, names };
+    crate::settle::walk_and_settle(h, terms, entries, index)
 }

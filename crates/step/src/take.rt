@@ -20,7 +20,8 @@ use pairs::Index;
 use refusal::Refusal;
 use table::visit::NamedTerms;
 
-// Takes a step on a loaded state. The index is scratch.
+// Takes a step on a loaded state. The index is scratch. The slices are parameters here and in what this calls, for the reason said at
+// `area::test::sound`.
 pub fn take(
     lim: Limits,
     h: Header,

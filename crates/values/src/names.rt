@@ -2,19 +2,21 @@
 // made of comes first: the first term along it with the same value. An application is of the class of an earlier one where
 // symbol and classes of arguments are the same (its key); a hash of the key finds that one (specs/names/Keys.antt, specs/names/Classes.antt).
 
-ghost use Rattle.std.specs.Prelude.{◌≡◌, ◌++◌, map, ℕ, ◌*◌, ◌<◌, ◌≤◌, length, drop};
-ghost use Rattle.model.specs.Area.{term_words};
+ghost use Rattle.std.specs.Prelude.{◌≡◌, ◌++◌, map, ℕ, ◌<◌, ◌≤◌, length, drop};
 ghost use Rattle.model.specs.Lists.{from, eq_numbers};
-ghost use Rattle.model.specs.Term.{name};
-ghost use Rattle.layout.specs.limits.Rows.{at, book_of, bound_of};
+ghost use Rattle.model.specs.Term.{var, name};
+ghost use Rattle.layout.specs.limits.Rows.{at, node_of, book_of, bound_of};
+ghost use Rattle.pairs.specs.Lent.{SameSlices};
 ghost use Rattle.values.specs.roots.Reading.{Listed};
 ghost use Rattle.values.specs.names.Keys.{mixed, hash_from, key_at, Row, Rows, Earlier};
 ghost use Rattle.values.specs.names.Classes.{Classable, class_of, Scratch, SameClasses, Seen, Nameable, lowest_same};
 
 use crate::term;
+use pairs::Index;
 
 // The hash `h` with `c` in it. `c` is in the factor too, so that what it changes depends on the numbers before it: a hash that is
 // linear in them could be met by lists built for it.
+#[tactic(auto, unfolding(crate::specs::names::Keys::mixed))]
 fn mix(h: u64, c: u32) -> u64
     ensures { result ≡ mixed h c }
 {
@@ -41,11 +43,10 @@ fn key_hash(rows: &[u32], classes: &[u32], t: u32) -> u64
     requires { Row rows.now (length classes.now) t }
     ensures { result ≡ hash_from 0 (key_at rows.now classes.now t) }
 {
-    let symbol = term::symbol(rows, t);
-    if symbol == 0 {
-        return 0;
+    match term::arguments(rows, t) {
+        Some(args) => application_hash(term::symbol(rows, t), args, classes),
+        None => 0,
     }
-    application_hash(symbol, term::arguments(rows, t), classes)
 }
 
 // Whether the classes of `args` and of `others` are the same, one by one.
@@ -68,19 +69,22 @@ fn same_classes(args: &[u32], others: &[u32], classes: &[u32]) -> bool
 // Whether the application `t` and the term `u` have the same key.
 fn same_key(rows: &[u32], classes: &[u32], t: u32, u: u32) -> bool
     requires rows { Row rows.now (length classes.now) t × Row rows.now (length classes.now) u }
-    requires application { at rows.now (term_words * t) ≡ 0 → ⊥ }
+    requires application { node_of rows.now t ≡ var → ⊥ }
     ensures { result ≡ eq_numbers (key_at rows.now classes.now t) (key_at rows.now classes.now u) }
 {
-    if term::symbol(rows, t) != term::symbol(rows, u) {
-        return false;
+    match (term::arguments(rows, t), term::arguments(rows, u)) {
+        (Some(args), Some(others)) => {
+            term::symbol(rows, t) == term::symbol(rows, u) && same_classes(args, others, classes)
+        }
+        (Some(_), None) => false,
+        (None, _) => false,
     }
-    same_classes(term::arguments(rows, t), term::arguments(rows, u), classes)
 }
 
 // The place of a term with the key of the application `t` among the first `k` of the list.
 fn search_keys(rows: &[u32], classes: &[u32], list: &[u32], k: usize, t: u32) -> Option<usize>
     requires rows { Rows rows.now (length classes.now) list.now k × Row rows.now (length classes.now) t }
-    requires application { at rows.now (term_words * t) ≡ 0 → ⊥ }
+    requires application { node_of rows.now t ≡ var → ⊥ }
     ensures { Earlier rows.now classes.now list.now k t result }
 {
     list[..k]
@@ -89,7 +93,7 @@ fn search_keys(rows: &[u32], classes: &[u32], list: &[u32], k: usize, t: u32) ->
 }
 
 // The same, where `place` is the only place to look at if the hash of no other key is that of `t`, or `k` if that of none is (what
-// `pairs::push` answers).
+// `Index::push` answers).
 fn earlier(
     rows: &[u32],
     classes: &[u32],
@@ -99,7 +103,7 @@ fn earlier(
     place: usize,
 ) -> Option<usize>
     requires rows { Rows rows.now (length classes.now) list.now k × Row rows.now (length classes.now) t }
-    requires application { at rows.now (term_words * t) ≡ 0 → ⊥ }
+    requires application { node_of rows.now t ≡ var → ⊥ }
     requires place { (place ≤ k) × (place ≡ k → (j : ℕ) → j < k → key_at rows.now classes.now t ≡ key_at rows.now classes.now (at list.now j) → ⊥) }
     ensures { Earlier rows.now classes.now list.now k t result }
 {
@@ -126,15 +130,13 @@ fn class_of(
     ensures { result ≡ class_of rows.now bindings.now list.now n (at list.now k) }
 {
     let t = list[k];
-    if term::symbol(rows, t) != 0 {
-        return match earlier(rows, classes, list, k, t, place) {
+    match (term::arguments(rows, t), term::bound(bindings, t)) {
+        (Some(_), _) => match earlier(rows, classes, list, k, t, place) {
             Some(j) => classes[list[j] as usize],
             None => t,
-        };
-    }
-    match term::bound(bindings, t) {
-        Some(u) => classes[u as usize],
-        None => t,
+        },
+        (None, Some(u)) => classes[u as usize],
+        (None, None) => t,
     }
 }
 
@@ -145,20 +147,19 @@ fn classify(
     n: u32,
     classes: &mut [u32],
     list: &[u32],
-    lefts: &mut [u32],
-    rights: &mut [u32],
-    cells: &mut [u32],
+    index: &mut Index,
 )
-    requires scratch { Scratch classes.old lefts.old rights.old cells.old n }
+    requires scratch { Scratch classes.old index.old.lefts.now index.old.rights.now index.old.cells.now n }
     requires listed { Listed rows.now bindings.now list.now n }
-    ensures { SameClasses (book_of rows.now n) (bound_of bindings.now n) classes.new n }
+    ensures classes { SameClasses (book_of rows.now n) (bound_of bindings.now n) classes.new n }
+    ensures same_slices { SameSlices index.old index.new }
 {
-    layout::clearing::clear(cells, pairs::BUCKETS);
+    index.clear();
     for (k, &t) in list[..n as usize].iter().enumerate() {
         let h = key_hash(rows, classes, t);
         let high = (h / 4294967296) as u32;
         let low = (h % 4294967296) as u32;
-        let place = pairs::push(lefts, rights, cells, k, high, low);
+        let place = index.push(k, high, low);
         classes[t as usize] = class_of(rows, bindings, n, classes, list, k, place);
     }
 }
@@ -192,8 +193,8 @@ fn lowest_of_class(classes: &[u32], n: u32, names: &mut [u32], firsts: &mut [u32
     }
 }
 
-// The name of each of the `n` terms, the lowest term with its value, into `names`. `lefts`, `rights`, `cells` and
-// `classes` are scratch.
+// The name of each of the `n` terms, the lowest term with its value, into `names`. The classes and the index are
+// scratch.
 pub fn names(
     rows: &[u32],
     bindings: &[u32],
@@ -201,15 +202,14 @@ pub fn names(
     classes: &mut [u32],
     list: &[u32],
     names: &mut [u32],
-    lefts: &mut [u32],
-    rights: &mut [u32],
-    cells: &mut [u32],
+    index: &mut Index,
 )
     requires listed { Listed rows.now bindings.now list.now n }
-    requires scratch { Scratch classes.old lefts.old rights.old cells.old n }
+    requires scratch { Scratch classes.old index.old.lefts.now index.old.rights.now index.old.cells.now n }
     requires names { n ≤ length names.old }
-    ensures { names.new ≡ map (name (book_of rows.now n) (bound_of bindings.now n)) (from 0 n) ++ drop n names.old }
+    ensures names { names.new ≡ map (name (book_of rows.now n) (bound_of bindings.now n)) (from 0 n) ++ drop n names.old }
+    ensures same_slices { SameSlices index.old index.new }
 {
-    classify(rows, bindings, n, classes, list, lefts, rights, cells);
-    lowest_of_class(classes, n, names, lefts);
+    classify(rows, bindings, n, classes, list, index);
+    lowest_of_class(classes, n, names, index.lefts);
 }

@@ -21,10 +21,11 @@ fn part_count(rows: &[u32], bindings: &[u32], n: u32, t: u32) -> usize
     requires t_lt_n { t < n }
     ensures { result ≡ length (parts_in rows.now bindings.now n t) }
 {
-    if term::symbol(rows, t) != 0 {
-        return term::arguments(rows, t).len();
+    match (term::arguments(rows, t), term::bound(bindings, t)) {
+        (Some(args), _) => args.len(),
+        (None, Some(_)) => 1,
+        (None, None) => 0,
     }
-    usize::from(term::bound(bindings, t).is_some())
 }
 
 // The `i`-th of them.
@@ -34,10 +35,10 @@ fn part(rows: &[u32], bindings: &[u32], n: u32, t: u32, i: usize) -> u32
     requires i_in_bounds { i < length (parts_in rows.now bindings.now n t) }
     ensures { result ≡ get_or (parts_in rows.now bindings.now n t) i 0 }
 {
-    if term::symbol(rows, t) != 0 {
-        return term::arguments(rows, t)[i];
+    match term::arguments(rows, t) {
+        Some(args) => args[i],
+        None => bindings[t as usize] - 1,
     }
-    bindings[t as usize] - 1
 }
 
 // Walks term `t`: what its value is made of first, then the term itself, at the next place of the list. Answers how many terms

@@ -11,16 +11,15 @@ ghost use Rattle.values.specs.roots.Flags.{flagged, any, occurs_step};
 use crate::term;
 
 // What term `t` stands for, where `roots` says it of the term that it may be bound to.
+#[tactic(auto, unfolding(model::specs::Term::deref_step))]
 fn root_of(rows: &[u32], bindings: &[u32], roots: &[u32], t: u32) -> u32
     requires { Readable rows.now bindings.now t (length roots.now) }
     ensures { result ≡ deref_step (at roots.now) t (node_of rows.now t) (binding_of bindings.now t) }
 {
-    if term::symbol(rows, t) != 0 {
-        return t;
-    }
-    match term::bound(bindings, t) {
-        Some(u) => roots[u as usize],
-        None => t,
+    match (term::arguments(rows, t), term::bound(bindings, t)) {
+        (Some(_), _) => t,
+        (None, Some(u)) => roots[u as usize],
+        (None, None) => t,
     }
 }
 
@@ -43,16 +42,15 @@ fn any_flagged(args: &[u32], flags: &[u32]) -> bool
 }
 
 // Whether `v` occurs in the value of term `t`, where `flags` says it of the terms one step down.
+#[tactic(auto, unfolding(crate::specs::roots::Flags::occurs_step, crate::specs::roots::Flags::flagged))]
 fn occurs_step(rows: &[u32], bindings: &[u32], flags: &[u32], v: u32, t: u32) -> bool
     requires { Readable rows.now bindings.now t (length flags.now) }
     ensures { result ≡ occurs_step (flagged flags.now) v t (node_of rows.now t) (binding_of bindings.now t) }
 {
-    if term::symbol(rows, t) != 0 {
-        return any_flagged(term::arguments(rows, t), flags);
-    }
-    match term::bound(bindings, t) {
-        Some(u) => flags[u as usize] != 0,
-        None => v == t,
+    match (term::arguments(rows, t), term::bound(bindings, t)) {
+        (Some(args), _) => any_flagged(args, flags),
+        (None, Some(u)) => flags[u as usize] != 0,
+        (None, None) => v == t,
     }
 }
 

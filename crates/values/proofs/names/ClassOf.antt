@@ -1,20 +1,19 @@
 -- The class of a term, the first along the list with its value: it is found from the classes of what the value is made of, and
 -- for an application from the keys of the terms before it. Assumes nothing.
-use Rattle.std.proofs.Common.{◌≡◌, refl, ap, ap₂, sym, ◌∙◌, List, [], ◌∷◌, map, ◌⊎◌, inl, inr, ℕ, suc, ◌*◌, ◌≤◌, ◌<◌, zero-le, suc-le-suc, arith, length, get_or, take, get_or-take, length-take-le}
+use Rattle.std.proofs.Common.{◌≡◌, refl, ap, ap₂, sym, ◌∙◌, List, [], ◌∷◌, map, ◌⊎◌, inl, inr, ℕ, suc, ◌≤◌, ◌<◌, zero-le, suc-le-suc, arith, length, get_or, take, get_or-take, length-take-le}
 use Rattle.std.proofs.Math.Option.{Option, none, some}
 use Rattle.model.specs.Lists.{first}
 use Rattle.model.specs.Term.{Node, var, app, arguments, Tree, free, node, Trees, more, trees, eq_tree, val}
-use Rattle.model.specs.Area.{term_words}
 use Rattle.theory.proofs.Soundness.Facts.{Formed, Acyclic}
 use Rattle.theory.proofs.Soundness.Terms.{acyclic_facts}
 use Rattle.theory.proofs.Lists.Laws.{first_holds, first-least}
 use Rattle.theory.proofs.Table.Search.{lt-or-le}
 use Rattle.theory.proofs.Values.Equations.{eq_tree-eq, eq_tree_refl, val-free, val-bound, val-app}
 use Rattle.layout.specs.limits.Rows.{at, node_of, book_of, binding_of, bound_of}
-use Rattle.layout.proofs.limits.Rows.{length-book_of, get_or-book_of, get_or-bound_of, node-var, good_formed}
+use Rattle.layout.proofs.limits.Rows.{length-book_of, get_or-book_of, get_or-bound_of, good_formed}
 use Rattle.values.specs.order.Order.{parts_of, Before}
 use Rattle.values.specs.roots.Reading.{Listed, Readable}
-use Rattle.values.proofs.roots.Reading.{readable, node-arguments}
+use Rattle.values.proofs.roots.Reading.{readable}
 use Rattle.values.proofs.roots.Settled.{list-fits, term-lt, settled-parts}
 use Rattle.values.specs.names.Keys.{key_of, key_at, Row, Rows}
 use Rattle.values.specs.names.Classes.{class_of, key_in, Classable}
@@ -241,27 +240,22 @@ module _ {rows bindings classes list : List ℕ} {n k place : ℕ} (a : Classabl
     λ e j q h. a.no_key e j q (sym (keys k (omega arith)) ∙ (h ∙ keys j (omega arith))),
   )
 
-  pub class-free : at rows (term_words * at list k) ≡ 0 → binding_of bindings (at list k) ≡ none → at list k ≡ class_of rows bindings list n (at list k)
-  class-free p q =
-      sym
-      (class-free_by a.listed (at list k) t_lt (at list k)
-      (value-free a.listed (at list k) t_lt (node-var rows (at list k) p) q) _ _ refl refl)
+  pub class-free : node_of rows (at list k) ≡ var → binding_of bindings (at list k) ≡ none → at list k ≡ class_of rows bindings list n (at list k)
+  class-free p q = sym (class-free_by a.listed (at list k) t_lt (at list k) (value-free a.listed (at list k) t_lt p q) _ _ refl refl)
 
-  pub class-bound : at rows (term_words * at list k) ≡ 0 → (u : ℕ) → binding_of bindings (at list k) ≡ some u
+  pub class-bound : {u : ℕ} → node_of rows (at list k) ≡ var → binding_of bindings (at list k) ≡ some u
       → at classes u ≡ class_of rows bindings list n (at list k)
   unfolding parts_of
-  class-bound p u o =
-      (rw (node-var rows (at list k) p, o) at
-      (settled-parts a.listed (λ t w. w ≡ class_of rows bindings list n t) classes k a.settled a.within))
-      0 (suc-le-suc zero-le)
+  class-bound {u} p o =
+      (rw (p, o) at (settled-parts a.listed (λ t w. w ≡ class_of rows bindings list n t) classes k a.settled a.within)) 0 (suc-le-suc zero-le)
       ∙ sym (class_same a.listed (at list k) u (value-bound a.listed (at list k) t_lt _ o))
 
-  module _ (p : at rows (term_words * at list k) ≡ 0 → ⊥) where
+  module _ {s : ℕ} {args : List ℕ} (p : node_of rows (at list k) ≡ app s args) where
     pub class-new : ((j : ℕ) → j < k → key_at rows classes (at list k) ≡ key_at rows classes (at list j) → ⊥)
         → at list k ≡ class_of rows bindings list n (at list k)
     class-new h =
         sym
-        (new_by a.listed k a.within _ _ (node-arguments rows (at list k) p)
+        (new_by a.listed k a.within _ _ p
         (λ j m e. h j m (keys k (omega arith) ∙ (e ∙ sym (keys j (omega arith))))) (lt-or-le _ k))
 
     module _ {r : ℕ} (e : (r < k) × (key_at rows classes (at list k) ≡ key_at rows classes (at list r))) where
@@ -279,4 +273,4 @@ module _ {rows bindings classes list : List ℕ} {n k place : ℕ} (a : Classabl
           ∙ sym
           (class_same a.listed (at list k) (at list r)
           (key_value a.listed (at list k) (at list r) t_lt (term-lt a.listed r (omega (arith, a.within, e.0))) _ _
-          (node-arguments rows (at list k) p) (node_of rows (at list r)) refl (rw (node-arguments rows (at list k) p) at same)))
+          p (node_of rows (at list r)) refl (rw p at same)))

@@ -1,11 +1,12 @@
 -- Classes along the list: after k terms each of those has its class, and the pairs are the halves of the hashes of their keys.
 -- Assumes nothing.
-use Rattle.std.proofs.Common.{◌≡◌, refl, ap, sym, ◌∙◌, List, ◌++◌, ℕ, suc, ◌+◌, ◌/◌, ◌%◌, ◌≤◌, ◌<◌, not-suc-le-zero, add-one, arith, below_more, length, drop, set, replicate, length-set}
+use Rattle.std.proofs.Common.{◌≡◌, ap, sym, ◌∙◌, List, ℕ, suc, ◌+◌, ◌/◌, ◌%◌, ◌≤◌, ◌<◌, not-suc-le-zero, add-one, arith, below_more, length, set, length-set}
 use Rattle.layout.specs.limits.Rows.{at, book_of, bound_of}
-use Rattle.pairs.specs.Index.{buckets, Room, Indexed, Pushed}
+use Rattle.pairs.specs.Index.{Room, Indexed, Pushed}
+use Rattle.pairs.specs.Lent.{SameSlices, IndexedIn}
+use Rattle.pairs.specs.declared.Index.{Index}
 use Rattle.pairs.proofs.Laws.{Holds, place-le, place-least, kept_holds, kept_set, holds-set}
 use Rattle.pairs.proofs.Rooms.{room_kept, room_fewer}
-use Rattle.pairs.proofs.Growth.{indexed-none}
 use Rattle.values.specs.roots.Reading.{Listed}
 use Rattle.values.proofs.roots.Settled.{Filled, filled_none, next-term, filled_more, filled_all}
 use Rattle.values.specs.names.Keys.{key_at, hash_from, Row}
@@ -21,32 +22,25 @@ abbrev Halves : List ℕ → List ℕ → ℕ → ℕ → Type 0
 Halves lefts rights i h = Holds lefts rights i (h / 4294967296) (h % 4294967296)
 
 -- After k terms: their classes, and the pairs of their hashes.
-pub record Classifying (rows bindings list : List ℕ) (n : ℕ) (classes₀ lefts₀ rights₀ cells₀ classes lefts rights cells : List ℕ) (k : ℕ) : Type 0 where
-  pub room : Room lefts₀ rights₀ cells₀ n
-  pub left_size : length lefts ≡ length lefts₀
-  pub right_size : length rights ≡ length rights₀
-  pub cells_size : length cells ≡ length cells₀
+pub record Classifying (rows bindings list : List ℕ) (n : ℕ) (classes₀ classes lefts rights cells : List ℕ) (k : ℕ) : Type 0 where
+  pub room : Room lefts rights cells n
   pub indexed : Indexed lefts rights cells k
   pub hashed : (i : ℕ) → i < k → Halves lefts rights i (hash_in rows bindings list n (at list i))
   pub filled : Filled rows bindings list n (λ t w. w ≡ class_of rows bindings list n t) classes₀ classes k
 
-module _ {rows bindings list : List ℕ} {n : ℕ} {classes₀ lefts₀ rights₀ cells₀ : List ℕ} where
-  pub classifying_none : Listed rows bindings list n → {cells : List ℕ} → Scratch classes₀ lefts₀ rights₀ cells n
-      → cells₀ ≡ replicate buckets 0 ++ drop buckets cells → length cells₀ ≡ length cells
-      → Classifying rows bindings list n classes₀ lefts₀ rights₀ cells₀ classes₀ lefts₀ rights₀ cells₀ 0
-  classifying_none listed {cells} scratch e same =
+module _ {rows bindings list : List ℕ} {n : ℕ} {classes₀ : List ℕ} where
+  pub classifying_none : Listed rows bindings list n → {x y : Index} → Scratch classes₀ x.lefts.now x.rights.now x.cells.now n
+      → IndexedIn y 0 → SameSlices x y → Classifying rows bindings list n classes₀ classes₀ y.lefts.now y.rights.now y.cells.now 0
+  classifying_none listed scratch none same =
       record {
-        room = room_kept scratch.room refl refl same;
-        left_size = refl;
-        right_size = refl;
-        cells_size = refl;
-        indexed = indexed-none (room_kept scratch.room refl refl same) cells e;
+        room = room_kept scratch.room same.lefts_long same.rights_long same.cells_long;
+        indexed = none;
         hashed = λ i l. absurd (not-suc-le-zero l);
         filled = filled_none listed scratch.classes_fit;
       }
 
   module _ {classes lefts rights cells : List ℕ} {k : ℕ}
-      (c : Classifying rows bindings list n classes₀ lefts₀ rights₀ cells₀ classes lefts rights cells k) where
+      (c : Classifying rows bindings list n classes₀ classes lefts rights cells k) where
     -- at the end the classes are those of the values
     pub classified : n ≤ k → SameClasses (book_of rows n) (bound_of bindings n) classes n
     classified l =
@@ -65,7 +59,7 @@ module _ {rows bindings list : List ℕ} {n : ℕ} {classes₀ lefts₀ rights�
       next_row = row_of c.filled.listed (length classes) (at list k) (next-term c.filled l) (omega (arith, c.filled.size, c.filled.fits))
 
       pub next-room : Room lefts rights cells (suc k)
-      next-room = room_kept (room_fewer l c.room) c.left_size c.right_size c.cells_size
+      next-room = room_fewer l c.room
 
       key_same : key_at rows classes (at list k) ≡ key_in rows bindings list n (at list k)
       key_same = key_settled c.filled.listed classes k l c.filled.settled k (omega arith)
@@ -93,13 +87,12 @@ module _ {rows bindings list : List ℕ} {n : ℕ} {classes₀ lefts₀ rights�
 
         -- one term more
         pub classifying_more : length cells' ≡ length cells → {w : ℕ} → w ≡ class_of rows bindings list n (at list k)
-            → Classifying rows bindings list n classes₀ lefts₀ rights₀ cells₀ (set classes (at list k) w) lefts' rights' cells' (k + 1)
+            → Classifying rows bindings list n classes₀ (set classes (at list k) w) lefts' rights' cells' (k + 1)
         classifying_more e {w} is =
             record {
-              room = c.room;
-              left_size = ap length p.left ∙ length-set lefts k (h / 4294967296) ∙ c.left_size;
-              right_size = ap length p.right ∙ length-set rights k (h % 4294967296) ∙ c.right_size;
-              cells_size = e ∙ c.cells_size;
+              room =
+                  room_kept c.room (ap length p.left ∙ length-set lefts k (h / 4294967296))
+                  (ap length p.right ∙ length-set rights k (h % 4294967296)) e;
               indexed = rw add-one p.indexed;
               hashed = below_more _ k (λ i q. kept i q) last;
               filled = filled_more c.filled w l is;

@@ -2,13 +2,12 @@
 use Rattle.std.proofs.Common.{◌≡◌, refl, ap, sym, ◌∙◌, List, [], ◌∷◌, map, true, false, ◌⊎◌, inl, inr, ℕ, suc, ◌+◌, ◌*◌, ◌-◌, ◌≤◌, ◌<◌, add-one, arith, eq-eqb, ne_eqb, length, drop, drop_of_length-le, drop-cons, T}
 use Rattle.std.proofs.Math.ListN.{length-map}
 use Rattle.model.specs.Lists.{is_empty, eq_numbers}
-use Rattle.model.specs.Term.{arguments}
+use Rattle.model.specs.Term.{var, app}
 use Rattle.model.specs.Area.{term_words}
 use Rattle.theory.proofs.Lists.Laws.{true_T, not-T_false, eq_numbers-eq, eq_numbers_refl}
 use Rattle.theory.proofs.Table.Search.{eq-or-not}
 use Rattle.layout.specs.limits.Rows.{at, node_of}
-use Rattle.layout.proofs.limits.Rows.{node-var}
-use Rattle.values.proofs.roots.Reading.{node-arguments}
+use Rattle.layout.proofs.limits.Rows.{node-var, node-app}
 use Rattle.values.specs.names.Keys.{key_of, key_at, mixed, hash_from}
 
 mixed-none : (c : ℕ) → mixed 0 c ≡ c
@@ -55,40 +54,39 @@ test_same xs ys e = eq_numbers-eq xs ys (true_T (eq_numbers xs ys) (sym e))
 pub test_other : (xs ys : List ℕ) → false ≡ eq_numbers xs ys → xs ≡ ys → ⊥
 test_other xs ys e q = let same : T (eq_numbers xs ys) = rw (sym q) (eq_numbers_refl xs) in absurd (rw (sym e) at same)
 
-module _ (rows classes : List ℕ) where
-  pub key_var : (t : ℕ) → at rows (term_words * t) ≡ 0 → key_at rows classes t ≡ []
-  unfolding key_of
-  key_var t p = rw (node-var rows t p)
+-- the symbol of an application is one below its word
+pub word-app : (rows : List ℕ) (t : ℕ) {s : ℕ} {args : List ℕ} → node_of rows t ≡ app s args → at rows (term_words * t) ≡ suc s
+word-app rows t {s} {args} p = go (eq-or-not (at rows (term_words * t)) 0)
+  where
+    go : (at rows (term_words * t) ≡ 0) ⊎ (at rows (term_words * t) ≡ 0 → ⊥) → at rows (term_words * t) ≡ suc s
+    go (inl e) = let q : var ≡ app s args = sym (node-var rows t e) ∙ p in absurd (cc)
+    go (inr h) = let q : s ≡ at rows (term_words * t) - 1 = cc (node-app rows t h) in omega arith
 
-  pub key_app : (t : ℕ) → (at rows (term_words * t) ≡ 0 → ⊥)
-      → key_at rows classes t ≡ at rows (term_words * t) ∷ map (at classes) (arguments (node_of rows t))
-  unfolding key_of arguments
-  key_app t p =
-      let e : suc (at rows (term_words * t) - 1) ≡ at rows (term_words * t) = omega arith in
-      rw (node-arguments rows t p) (ap (λ (w : ℕ). w ∷ map (at classes) (arguments (node_of rows t))) e)
-
+module _ (rows classes : List ℕ) (t : ℕ) where
   -- the hash of a key
-  pub hash_var : (t : ℕ) → at rows (term_words * t) ≡ 0 → 0 ≡ hash_from 0 (key_at rows classes t)
-  unfolding hash_from
-  hash_var t p = rw (key_var t p)
+  pub hash_var : node_of rows t ≡ var → 0 ≡ hash_from 0 (key_at rows classes t)
+  unfolding hash_from key_of
+  hash_var p = rw p
 
-  pub hash_app : (t : ℕ) → (at rows (term_words * t) ≡ 0 → ⊥)
-      → hash_from (at rows (term_words * t)) (map (at classes) (arguments (node_of rows t))) ≡ hash_from 0 (key_at rows classes t)
-  unfolding hash_from
-  hash_app t p = rw (key_app t p) (ap (λ (h : ℕ). hash_from h (map (at classes) (arguments (node_of rows t)))) (sym (mixed-none (at rows (term_words * t)))))
+  pub hash_app : {s : ℕ} {args : List ℕ} → node_of rows t ≡ app s args
+      → hash_from (suc s) (map (at classes) args) ≡ hash_from 0 (key_at rows classes t)
+  unfolding hash_from key_of
+  hash_app {s} {args} p = rw p (ap (λ (h : ℕ). hash_from h (map (at classes) args)) (sym (mixed-none (suc s))))
 
-  -- two keys with one symbol, and with two
-  module _ (t u : ℕ) (p : at rows (term_words * t) ≡ 0 → ⊥) where
-    pub keys_alike : at rows (term_words * t) ≡ at rows (term_words * u)
-        → eq_numbers (map (at classes) (arguments (node_of rows t))) (map (at classes) (arguments (node_of rows u))) ≡ eq_numbers (key_at rows classes t) (key_at rows classes u)
-    unfolding eq_numbers
-    keys_alike e =
-        rw (key_app t p, key_app u (λ z. p (e ∙ z)), eq-eqb (at rows (term_words * t)) (at rows (term_words * u)) e)
+  -- two keys with one symbol, with two, and that of a variable
+  module _ (u : ℕ) {s : ℕ} {args : List ℕ} (p : node_of rows t ≡ app s args) where
+    pub keys_alike : {s' : ℕ} {others : List ℕ} → node_of rows u ≡ app s' others → at rows (term_words * t) ≡ at rows (term_words * u)
+        → eq_numbers (map (at classes) args) (map (at classes) others) ≡ eq_numbers (key_at rows classes t) (key_at rows classes u)
+    unfolding eq_numbers key_of
+    keys_alike {s'} q e =
+        let same : suc s ≡ suc s' = omega (arith, word-app rows t p, word-app rows u q) in rw (p, q, eq-eqb (suc s) (suc s') same)
 
-    pub keys_differ : (at rows (term_words * t) ≡ at rows (term_words * u) → ⊥) → false ≡ eq_numbers (key_at rows classes t) (key_at rows classes u)
-    unfolding eq_numbers
-    keys_differ e = go (eq-or-not (at rows (term_words * u)) 0)
-      where
-        go : (at rows (term_words * u) ≡ 0) ⊎ (at rows (term_words * u) ≡ 0 → ⊥) → false ≡ eq_numbers (key_at rows classes t) (key_at rows classes u)
-        go (inl z) = rw (key_app t p, key_var u z)
-        go (inr q) = rw (key_app t p, key_app u q, ne_eqb (at rows (term_words * t)) (at rows (term_words * u)) e)
+    pub keys_differ : {s' : ℕ} {others : List ℕ} → node_of rows u ≡ app s' others → (at rows (term_words * t) ≡ at rows (term_words * u) → ⊥)
+        → false ≡ eq_numbers (key_at rows classes t) (key_at rows classes u)
+    unfolding eq_numbers key_of
+    keys_differ {s'} q h =
+        let other : suc s ≡ suc s' → ⊥ = λ e. h (word-app rows t p ∙ e ∙ sym (word-app rows u q)) in rw (p, q, ne_eqb (suc s) (suc s') other)
+
+    pub keys_var : node_of rows u ≡ var → false ≡ eq_numbers (key_at rows classes t) (key_at rows classes u)
+    unfolding eq_numbers key_of
+    keys_var q = rw (p, q)

@@ -1,16 +1,16 @@
 -- The parts of a term: what they are in rows of words, that they are terms, and that a term ends one step behind them.
 -- Assumes nothing.
-use Rattle.std.proofs.Common.{◌≡◌, refl, ◌∙◌, List, [], ◌∷◌, Bool, true, false, ℕ, zero, suc, ◌*◌, ◌-◌, ◌≤◌, ◌<◌, le_of_suc-le-suc, not-suc-le-zero, arith, length, get_or, T}
+use Rattle.std.proofs.Common.{◌≡◌, refl, ◌∙◌, List, [], ◌∷◌, Bool, true, false, ℕ, zero, suc, ◌-◌, ◌≤◌, ◌<◌, le_of_suc-le-suc, not-suc-le-zero, arith, length, get_or, T}
 use Rattle.std.proofs.Math.Option.{Option, none, some}
 use Rattle.std.proofs.Math.Decide.{ℕ_discrete}
+use Rattle.model.specs.Limits.{max_arity}
 use Rattle.model.specs.Lists.{all}
 use Rattle.model.specs.Term.{Node, var, app, arguments, Book, Bindings, ends_step, ends}
-use Rattle.model.specs.Area.{term_words}
 use Rattle.theory.proofs.Lists.Laws.{and_left, and_both, true_T}
 use Rattle.theory.proofs.Soundness.Facts.{Formed}
 use Rattle.theory.proofs.Values.Ends.{argument-lt}
 use Rattle.layout.specs.limits.Rows.{at, node_of, book_of, binding_of, bound_of, GoodTerms}
-use Rattle.layout.proofs.limits.Rows.{length-book_of, get_or-book_of, get_or-bound_of, node-var, node-app, binding_none, binding_some, good_formed}
+use Rattle.layout.proofs.limits.Rows.{length-book_of, get_or-book_of, get_or-bound_of, binding_none, binding_some, good_formed}
 use Rattle.values.specs.order.Order.{parts_of, parts}
 use Rattle.values.specs.order.Marking.{parts_in}
 use Rattle.values.proofs.roots.Reading.{parts-lt}
@@ -29,32 +29,32 @@ module _ {rows bindings : List ℕ} {n : ℕ} (good : GoodTerms rows bindings n)
   in_rows = rw (get_or-book_of rows n t l, get_or-bound_of bindings n t l)
 
   -- an application's are its arguments, a bound variable's is what it is bound to, a free one has none
-  pub parts-app : (at rows (term_words * t) ≡ 0 → ⊥) → parts_in rows bindings n t ≡ arguments (node_of rows t)
-  unfolding parts_of arguments
-  parts-app h = in_rows ∙ rw (node-app rows t h)
-
-  pub parts_free : at rows (term_words * t) ≡ 0 → binding_of bindings t ≡ none → parts_in rows bindings n t ≡ []
+  pub parts-app : {s : ℕ} {args : List ℕ} → node_of rows t ≡ app s args → parts_in rows bindings n t ≡ args
   unfolding parts_of
-  parts_free e f = in_rows ∙ rw (node-var rows t e, f)
+  parts-app p = in_rows ∙ rw p
 
-  pub parts-bound : at rows (term_words * t) ≡ 0 → (u : ℕ) → binding_of bindings t ≡ some u → parts_in rows bindings n t ≡ u ∷ []
+  pub parts_free : node_of rows t ≡ var → binding_of bindings t ≡ none → parts_in rows bindings n t ≡ []
   unfolding parts_of
-  parts-bound e u f = in_rows ∙ rw (node-var rows t e, f)
+  parts_free p q = in_rows ∙ rw (p, q)
+
+  pub parts-bound : {u : ℕ} → node_of rows t ≡ var → binding_of bindings t ≡ some u → parts_in rows bindings n t ≡ u ∷ []
+  unfolding parts_of
+  parts-bound p q = in_rows ∙ rw (p, q)
 
   -- a variable that has a part is bound to it
-  module _ (e : at rows (term_words * t) ≡ 0) (i : ℕ) (k : i < length (parts_in rows bindings n t)) where
+  module _ (p : node_of rows t ≡ var) (i : ℕ) (k : i < length (parts_in rows bindings n t)) where
     pub bound-word : 1 ≤ at bindings t
     bound-word = go (ℕ_discrete (at bindings t) 0)
       where
         go : Dec (at bindings t ≡ 0) → 1 ≤ at bindings t
-        go (yes f) = absurd (not-suc-le-zero (rw (parts_free e (binding_none bindings t f)) at k))
+        go (yes f) = absurd (not-suc-le-zero (rw (parts_free p (binding_none bindings t f)) at k))
         go (no f) = omega arith
 
     pub part_bound : at bindings t - 1 ≡ get_or (parts_in rows bindings n t) i 0
     part_bound =
-        let p : parts_in rows bindings n t ≡ (at bindings t - 1) ∷ [] =
-        parts-bound e (at bindings t - 1) (binding_some bindings t (λ f. omega (arith, bound-word))) in
-        rw p (only (at bindings t - 1) i (rw p at k))
+        let q : parts_in rows bindings n t ≡ (at bindings t - 1) ∷ [] =
+        parts-bound p (binding_some bindings t (λ f. omega (arith, bound-word))) in
+        rw q (only (at bindings t - 1) i (rw q at k))
 
 -- ---- parts of a book
 
@@ -78,6 +78,13 @@ unfolding ends_step parts_of all
 parts-step p var none e = tt
 parts-step p var (some u) e = and_left (p u) true e
 parts-step p (app s args) o e = e
+
+-- there are few of them
+parts-few : (x : Node) (o : Option ℕ) → length (arguments x) ≤ max_arity → length (parts_of x o) ≤ max_arity
+unfolding parts_of arguments
+parts-few var none h = omega arith
+parts-few var (some u) h = omega arith
+parts-few (app s args) o h = h
 
 module _ (b : Book) (β : Bindings) where
   pub ends-parts : (k t : ℕ) → T (ends b β (suc k) t) → T (all (ends b β k) (parts b β t))
@@ -111,3 +118,7 @@ module _ (b : Book) (β : Bindings) where
     unfolding parts
     part_lt t l =
         parts-lt (length b) (get_or b t var) (get_or β t none) (argument-lt b β formed t l) (λ u q. (formed.bound-var t u q).1)
+
+    pub few-parts : (t : ℕ) → t < length b → length (parts b β t) ≤ max_arity
+    unfolding parts
+    few-parts t l = parts-few (get_or b t var) (get_or β t none) (formed.small_arity t l)

@@ -1,19 +1,17 @@
 -- Whether a variable occurs in a value: one step from the flags of the terms below. Assumes nothing.
-use Rattle.std.proofs.Common.{◌≡◌, refl, ap, ap₂, sym, ◌∙◌, List, [], ◌∷◌, Bool, true, false, not, ◌||◌, ℕ, suc, ◌*◌, ◌<◌, zero-le, suc-le-suc, arith, length, get_or, eqb, eq-eqb, ne_eqb}
+use Rattle.std.proofs.Common.{◌≡◌, refl, ap, ap₂, sym, ◌∙◌, List, [], ◌∷◌, Bool, true, false, not, ◌||◌, ℕ, suc, ◌<◌, zero-le, suc-le-suc, arith, length, get_or, eqb, eq-eqb, ne_eqb}
 use Rattle.std.proofs.Math.Option.{Option, none, some}
 use Rattle.std.specs.Int.{from_bool}
 use Rattle.std.specs.List.{list_any}
 use Rattle.std.proofs.lemmas.List.Recursion.{same_from_clauses}
-use Rattle.model.specs.Term.{Node, var, app, arguments, Book, Bindings, Tree, trees, val, occurs, occurs_any}
-use Rattle.model.specs.Area.{term_words}
+use Rattle.model.specs.Term.{Node, var, app, Book, Bindings, Tree, trees, val, occurs, occurs_any}
 use Rattle.theory.proofs.Soundness.Facts.{Formed, Acyclic}
 use Rattle.theory.proofs.Soundness.Terms.{acyclic_facts}
 use Rattle.theory.proofs.Values.Equations.{val-free, val-bound, val-app}
 use Rattle.layout.specs.limits.Rows.{at, node_of, book_of, binding_of, bound_of}
-use Rattle.layout.proofs.limits.Rows.{length-book_of, get_or-book_of, get_or-bound_of, node-var, good_formed}
+use Rattle.layout.proofs.limits.Rows.{length-book_of, get_or-book_of, get_or-bound_of, good_formed}
 use Rattle.values.specs.order.Order.{parts_of}
 use Rattle.values.specs.roots.Flags.{flag, flagged, any, occurs_step}
-use Rattle.values.proofs.roots.Reading.{node-arguments}
 use Rattle.values.proofs.roots.Settled.{settled-parts, Filled, next-term}
 
 -- a flag's word says whether it stands
@@ -83,19 +81,3 @@ module _ (v : ℕ) {rows bindings list : List ℕ} {n : ℕ} {words₀ words : L
       ∙ sym
       (occurs_of b β (good_formed h.listed.good) (acyclic_facts b β h.listed.no_cycle) v t (rw length-book_of (next-term h l))
       (node_of rows t) (binding_of bindings t) (get_or-book_of rows n t (next-term h l)) (get_or-bound_of bindings n t (next-term h l)))
-
--- the step by the words of a term
-module _ (rows bindings : List ℕ) (below : ℕ → Bool) (v t : ℕ) where
-  pub occurs-app : (at rows (term_words * t) ≡ 0 → ⊥) → (args : List ℕ) → args ≡ arguments (node_of rows t)
-      → any below args ≡ occurs_step below v t (node_of rows t) (binding_of bindings t)
-  unfolding occurs_step arguments
-  occurs-app h args e = rw (e, node-arguments rows t h)
-
-  pub occurs-free : at rows (term_words * t) ≡ 0 → binding_of bindings t ≡ none → eqb v t ≡ occurs_step below v t (node_of rows t) (binding_of bindings t)
-  unfolding occurs_step
-  occurs-free p q = rw (node-var rows t p, q)
-
-  pub occurs-bound : at rows (term_words * t) ≡ 0 → (u : ℕ) → binding_of bindings t ≡ some u
-      → below u ≡ occurs_step below v t (node_of rows t) (binding_of bindings t)
-  unfolding occurs_step
-  occurs-bound p u q = rw (node-var rows t p, q)

@@ -1,11 +1,10 @@
 -- Reading one term: what a good book gives, and the words that are read. Assumes nothing.
-use Rattle.std.proofs.Common.{◌≡◌, refl, ◌∙◌, List, ℕ, zero, suc, ◌*◌, ◌-◌, ◌≤◌, ◌<◌, zero-le, suc-le-suc, not-suc-le-zero, arith, length, get_or}
+use Rattle.std.proofs.Common.{◌≡◌, refl, ◌∙◌, List, ℕ, zero, suc, ◌≤◌, ◌<◌, zero-le, suc-le-suc, not-suc-le-zero, arith, length, get_or}
 use Rattle.std.proofs.Math.Option.{Option, none, some}
 use Rattle.model.specs.Term.{Node, var, app, arguments}
-use Rattle.model.specs.Area.{term_words}
 use Rattle.theory.proofs.Soundness.Facts.{Formed}
 use Rattle.layout.specs.limits.Rows.{at, node_of, book_of, binding_of, bound_of, GoodTerms}
-use Rattle.layout.proofs.limits.Rows.{length-book_of, get_or-book_of, get_or-bound_of, node-var, node-app, good_formed}
+use Rattle.layout.proofs.limits.Rows.{length-book_of, get_or-book_of, get_or-bound_of, good_formed}
 use Rattle.values.specs.order.Order.{parts_of}
 use Rattle.values.specs.roots.Reading.{Readable}
 
@@ -33,19 +32,12 @@ readable rows bindings n t m good l h =
     formed : Formed (book_of rows n) (bound_of bindings n)
     formed = good_formed good
 
--- an application, by its arguments
-pub node-arguments : (rows : List ℕ) (t : ℕ) → (at rows (term_words * t) ≡ 0 → ⊥)
-    → node_of rows t ≡ app (at rows (term_words * t) - 1) (arguments (node_of rows t))
-unfolding arguments
-node-arguments rows t h = rw (node-app rows t h)
-
-module _ (rows bindings : List ℕ) (t m : ℕ) (r : Readable rows bindings t m) where
+module _ {rows bindings : List ℕ} {t m : ℕ} (r : Readable rows bindings t m) where
   -- the term that a variable is bound to, and the arguments of an application, are below m
-  pub bound-below : at rows (term_words * t) ≡ 0 → (u : ℕ) → binding_of bindings t ≡ some u → u < m
+  pub bound_below : {u : ℕ} → node_of rows t ≡ var → binding_of bindings t ≡ some u → u < m
   unfolding parts_of
-  bound-below p u q = (rw (node-var rows t p, q) at r.parts_below) 0 (suc-le-suc zero-le)
+  bound_below p q = (rw (p, q) at r.parts_below) 0 (suc-le-suc zero-le)
 
-  pub arguments-below : (at rows (term_words * t) ≡ 0 → ⊥) → (args : List ℕ) → args ≡ arguments (node_of rows t)
-      → (j : ℕ) → j < length args → at args j < m
+  pub arguments_below : {s : ℕ} {args : List ℕ} → node_of rows t ≡ app s args → (j : ℕ) → j < length args → at args j < m
   unfolding parts_of
-  arguments-below h args e = rw e (rw (node-arguments rows t h) at r.parts_below)
+  arguments_below p = rw p at r.parts_below

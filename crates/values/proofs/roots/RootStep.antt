@@ -1,13 +1,12 @@
 -- What a term stands for, one step from what it may be bound to. Assumes nothing.
-use Rattle.std.proofs.Common.{◌≡◌, refl, sym, ◌∙◌, List, ℕ, suc, ◌*◌, ◌<◌, zero-le, suc-le-suc, arith, length, get_or}
+use Rattle.std.proofs.Common.{◌≡◌, refl, sym, ◌∙◌, List, ℕ, suc, ◌<◌, zero-le, suc-le-suc, arith, length, get_or}
 use Rattle.std.proofs.Math.Option.{Option, none, some}
 use Rattle.model.specs.Term.{Node, var, app, Book, Bindings, deref_step, deref}
-use Rattle.model.specs.Area.{term_words}
 use Rattle.theory.proofs.Soundness.Facts.{Acyclic}
 use Rattle.theory.proofs.Soundness.Terms.{acyclic_facts}
 use Rattle.theory.proofs.Values.Equations.{deref-more}
 use Rattle.layout.specs.limits.Rows.{at, node_of, book_of, binding_of, bound_of}
-use Rattle.layout.proofs.limits.Rows.{length-book_of, get_or-book_of, get_or-bound_of, node-var, node-app}
+use Rattle.layout.proofs.limits.Rows.{length-book_of, get_or-book_of, get_or-bound_of}
 use Rattle.values.specs.order.Order.{parts_of}
 use Rattle.values.specs.roots.Reading.{Listed}
 use Rattle.values.proofs.roots.Settled.{settled-parts, Filled, next-term}
@@ -46,18 +45,3 @@ root-next {rows} {bindings} {list} {n} {words₀} {words} {k} h l w e =
     ∙ deref_step-parts (at words) (deref (book_of rows n) (bound_of bindings n) n) (at list k) (node_of rows (at list k)) (binding_of bindings (at list k))
     (settled-parts h.listed (IsRoot rows bindings n) words k h.settled l)
     ∙ sym (deref_of h.listed (at list k) (next-term h l))
-
--- the step by the words of a term
-module _ (rows bindings : List ℕ) (below : ℕ → ℕ) (t : ℕ) where
-  pub step-app : (at rows (term_words * t) ≡ 0 → ⊥) → t ≡ deref_step below t (node_of rows t) (binding_of bindings t)
-  unfolding deref_step
-  step-app h = rw (node-app rows t h)
-
-  pub step-free : at rows (term_words * t) ≡ 0 → binding_of bindings t ≡ none → t ≡ deref_step below t (node_of rows t) (binding_of bindings t)
-  unfolding deref_step
-  step-free p q = rw (node-var rows t p, q)
-
-  pub step-bound : at rows (term_words * t) ≡ 0 → (u : ℕ) → binding_of bindings t ≡ some u
-      → below u ≡ deref_step below t (node_of rows t) (binding_of bindings t)
-  unfolding deref_step
-  step-bound p u q = rw (node-var rows t p, q)

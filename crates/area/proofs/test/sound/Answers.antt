@@ -1,6 +1,6 @@
 -- `test::sound` meets its contract. A header that is not in order decides; else the words are loaded and tested, and what one
 -- test finds is what the next one asks. Assumes nothing.
-use Rattle.std.proofs.Common.{◌≡◌, true, sym, ◌∙◌, T}
+use Rattle.std.proofs.Common.{rules, ◌≡◌, true, sym, ◌∙◌, T}
 use Rattle.std.proofs.Math.Seq.{length-take-le}
 use Rattle.model.specs.Term.{acyclic}
 use Rattle.theory.proofs.Lists.Laws.{true_T}
@@ -8,6 +8,7 @@ use Rattle.layout.specs.limits.Limits.{limits_of}
 use Rattle.layout.specs.limits.Rows.{Loaded, book_of, bound_of}
 use Rattle.layout.specs.header.Held.{held}
 use Rattle.layout.proofs.limits.Modest.{modest}
+use Rattle.pairs.specs.Lent.{SameSlices}
 use Rattle.pairs.proofs.Rooms.{room_kept}
 use Rattle.soundness.specs.sound.Sound.{header_ok, rows_ok}
 use Rattle.values.specs.evaluate.Valued.{Valued}
@@ -35,6 +36,14 @@ named c =
           let yes = sym w.value-is ∙ c.if-name_terms.true in
           (sym c.rows_ok.ensures ∙ w.if-rows_ok.true, sym w.name_terms.ensures.acyclic ∙ yes, rw (w.list-is, w.roots-is, w.names-is) (w.name_terms.ensures.values yes))
       | else-rows_ok w ↦ absurd cc
+    ]
+
+-- and the index lends the same slices
+same_index : (c : Then-name_terms) → SameSlices c.args.index.now c.if-rows_ok.index
+same_index c =
+    elim c.if-rows_ok.branch [
+      | then-rows_ok w ↦ rw w.index-is w.name_terms.ensures.same_slices
+      | else-rows_ok w ↦ rw w.index-is (search rules)
     ]
 
 pub returns-then-not-header_ok-clause-sound : goal.returns-then-not-header_ok-clause-sound
@@ -79,8 +88,8 @@ table_ok-requires-clause-known c =
 
 pub table_ok-requires-clause-room : goal.table_ok-requires-clause-room
 table_ok-requires-clause-room c =
-    let kept = c.if-rows_ok.auto in
-    room_kept (room-entries _ _ (in_order (goal.at.table_ok-requires-clause-room c).Else-not-header_ok) _ c.load_header-header.ensures c.requires.lent) kept.lefts kept.rights kept.cells
+    let kept = same_index (goal.at.table_ok-requires-clause-room c).Then-name_terms in
+    room_kept (room-entries _ _ (in_order (goal.at.table_ok-requires-clause-room c).Else-not-header_ok) _ c.load_header-header.ensures c.requires.lent) kept.lefts_long kept.rights_long kept.cells_long
 
 pub returns-then-name_terms-clause-sound : goal.returns-then-name_terms-clause-sound
 returns-then-name_terms-clause-sound c =
@@ -89,7 +98,7 @@ returns-then-name_terms-clause-sound c =
     let head = c.load_header-header.ensures in
     let n = named at.Then-name_terms in
     decides _ _ ok _ head c.load.ensures (modest c.args.lim) (are_bytes_lem _ c.type_inv.area)
-    (table_decides (state-at at.After-load) n.0 n.1 (c.table_ok.ensures _ _ (table-known (state-at at.After-load) (used _ _ ok _ head c.load.ensures) (true_T _ n.0) n.2)))
+    (table_decides (state-at at.After-load) n.0 n.1 (c.table_ok.ensures.right _ _ (table-known (state-at at.After-load) (used _ _ ok _ head c.load.ensures) (true_T _ n.0) n.2)))
 
 pub returns-then-name_terms-clause-read : goal.returns-then-name_terms-clause-read
 returns-then-name_terms-clause-read c =
@@ -98,7 +107,7 @@ returns-then-name_terms-clause-read c =
     let head = c.load_header-header.ensures in
     let n = named at.Then-name_terms in
     let size = c.load.auto.entries ∙ length-take-le _ _ (cut_fits _ _ ok _ head c.requires.sizes) in
-    let e = table_decides (state-at at.After-load) n.0 n.1 (c.table_ok.ensures _ _ (table-known (state-at at.After-load) (used _ _ ok _ head c.load.ensures) (true_T _ n.0) n.2)) in
+    let e = table_decides (state-at at.After-load) n.0 n.1 (c.table_ok.ensures.right _ _ (table-known (state-at at.After-load) (used _ _ ok _ head c.load.ensures) (true_T _ n.0) n.2)) in
     λ h. cut-read _ _ _ head size (area-read _ _ ok _ head c.load.ensures (modest c.args.lim) (are_bytes_lem _ c.type_inv.area) e h n.2) _
 
 pub returns-else-name_terms-clause-sound : goal.returns-else-name_terms-clause-sound

@@ -1,5 +1,5 @@
 -- Each turn pushes the hash of one key more, and finds its class.
-use Rattle.std.proofs.Common.{sym, arith}
+use Rattle.std.proofs.Common.{rules, sym, arith}
 use Rattle.values.proofs.roots.Settled.{length-list, turn}
 use Rattle.values.proofs.names.Classifying.{classifying_none, next_row, next_classable, classifying_more, classified}
 use Rattle.values.proofs.names.classify.Goals as goal
@@ -8,22 +8,27 @@ pub slice_bounds-t-items-end : goal.slice_bounds-t-items-end
 slice_bounds-t-items-end c = sym (length-list c.requires.listed)
 
 pub loop-k-init : goal.loop-k-init
-loop-k-init c = classifying_none c.requires.listed c.requires.scratch c.clear.ensures c.clear.auto.words
+loop-k-init c =
+    let s = c.clear.ensures.same_slices in
+    record { same = s; classifying = classifying_none c.requires.listed c.requires.scratch c.clear.ensures.indexed s }
 
 pub key_hash-h-requires : goal.key_hash-h-requires
 key_hash-h-requires c =
-    let t = turn c.requires.listed c.loop-k.k c.loop-k-test.true in rw t.1 (next_row c.loop-k.invariant t.0)
+    let t = turn c.requires.listed c.loop-k.k c.loop-k-test.true in rw t.1 (next_row c.loop-k.invariant.classifying t.0)
 
 pub class_of-requires : goal.class_of-requires
 class_of-requires c =
     let t = turn c.requires.listed c.loop-k.k c.loop-k-test.true in
-    next_classable c.loop-k.invariant t.0 (rw t.1 at c.key_hash-h.ensures) c.push-place.ensures
+    next_classable c.loop-k.invariant.classifying t.0 (rw t.1 at c.key_hash-h.ensures) c.push-place.ensures.pushed
 
 pub loop-k-preserved : goal.loop-k-preserved
 loop-k-preserved c =
     let t = turn c.requires.listed c.loop-k.k c.loop-k-test.true in
-    rw t.1
-    (classifying_more c.loop-k.invariant t.0 (rw t.1 at c.key_hash-h.ensures) c.push-place.ensures c.push-place.auto.cells c.class_of.ensures)
+    let push = c.push-place.ensures in
+    record {
+      same = search rules;
+      classifying = rw t.1 (classifying_more c.loop-k.invariant.classifying t.0 (rw t.1 at c.key_hash-h.ensures) push.pushed push.same_slices.cells_long c.class_of.ensures);
+    }
 
-pub returns : goal.returns
-returns c = classified c.loop-k.invariant (omega (arith, length-list c.requires.listed))
+pub returns-clause-classes : goal.returns-clause-classes
+returns-clause-classes c = classified c.loop-k.invariant.classifying (omega (arith, length-list c.requires.listed))

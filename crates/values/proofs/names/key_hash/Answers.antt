@@ -1,12 +1,18 @@
--- The words of the row say which case of a key holds.
-use Rattle.std.proofs.Common.{sym, ◌∙◌}
-use Rattle.values.proofs.names.Keys.{hash_var, hash_app}
+-- What was read says which case of a key holds.
+use Rattle.std.proofs.Common.{◌∙◌}
+use Rattle.model.specs.Term.{arguments}
+use Rattle.values.proofs.names.Keys.{word-app, hash_var, hash_app}
 use Rattle.values.proofs.names.key_hash.Goals as goal
 
-pub returns-then-symbol-eq0 : goal.returns-then-symbol-eq0
-returns-then-symbol-eq0 c = hash_var c.args.rows.now c.args.classes.now c.args.t (sym c.symbol-symbol.ensures ∙ c.if-symbol-eq0.true)
+pub application_hash-requires : goal.application_hash-requires
+unfolding arguments
+application_hash-requires c = rw c.in-Some.ensures at c.requires.arguments-below
 
-pub returns : goal.returns
-returns c =
+pub returns-in-Some : goal.returns-in-Some
+returns-in-Some c =
     c.application_hash.ensures
-    ∙ rw (c.symbol-symbol.ensures, c.arguments.ensures) (hash_app c.args.rows.now c.args.classes.now c.args.t (rw c.symbol-symbol.ensures at c.if-symbol-eq0.false))
+    ∙ rw (c.symbol.ensures ∙ word-app c.args.rows.now c.args.t c.in-Some.ensures)
+    (hash_app c.args.rows.now c.args.classes.now c.args.t c.in-Some.ensures)
+
+pub returns-in-None : goal.returns-in-None
+returns-in-None c = hash_var c.args.rows.now c.args.classes.now c.args.t c.in-None.ensures

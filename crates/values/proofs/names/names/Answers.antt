@@ -2,5 +2,5 @@
 use Rattle.values.proofs.names.Lowest.{names_found}
 use Rattle.values.proofs.names.names.Goals as goal
 
-pub returns : goal.returns
-returns c = names_found _ _ _ _ _ _ c.classify.ensures c.lowest_of_class.ensures
+pub returns-clause-names : goal.returns-clause-names
+returns-clause-names c = names_found _ _ _ _ _ _ c.classify.ensures.classes c.lowest_of_class.ensures

@@ -1,13 +1,31 @@
 -- Two keys are the same where the symbols and the classes of the arguments are.
-use Rattle.std.proofs.Common.{◌∙◌}
-use Rattle.values.proofs.names.Keys.{keys_alike, keys_differ}
+use Rattle.std.proofs.Common.{sym, ◌∙◌, ne_eqb}
+use Rattle.model.specs.Term.{arguments}
+use Rattle.values.proofs.names.Keys.{keys_alike, keys_differ, keys_var}
 use Rattle.values.proofs.names.same_key.Goals as goal
 
-pub returns-then-symbol : goal.returns-then-symbol
-returns-then-symbol c = keys_differ c.args.rows.now c.args.classes.now c.args.t c.args.u c.requires.application (rw (c.symbol.ensures, c.symbol-2.ensures) at c.if-symbol.true)
+pub same_classes-requires-clause-args : goal.same_classes-requires-clause-args
+unfolding arguments
+same_classes-requires-clause-args c = rw c.in-Some-Some.ensures at c.requires.rows.0.arguments-below
 
-pub returns : goal.returns
-returns c =
+pub same_classes-requires-clause-others : goal.same_classes-requires-clause-others
+unfolding arguments
+same_classes-requires-clause-others c = rw c.in-Some-Some.ensures' at c.requires.rows.1.arguments-below
+
+pub returns-then-symbol : goal.returns-then-symbol
+returns-then-symbol c =
     c.same_classes.ensures
-    ∙ rw (c.arguments.ensures, c.arguments-2.ensures)
-    (keys_alike c.args.rows.now c.args.classes.now c.args.t c.args.u c.requires.application (rw (c.symbol.ensures, c.symbol-2.ensures) at c.if-symbol.false))
+    ∙ keys_alike c.args.rows.now c.args.classes.now c.args.t c.args.u c.in-Some-Some.ensures c.in-Some-Some.ensures'
+    (sym c.symbol.ensures ∙ (c.if-symbol.true ∙ c.symbol-in-Some-Some.ensures))
+
+pub returns-else-symbol : goal.returns-else-symbol
+returns-else-symbol c =
+    rw (ne_eqb c.symbol.result c.symbol-in-Some-Some.result c.if-symbol.false)
+    (keys_differ c.args.rows.now c.args.classes.now c.args.t c.args.u c.in-Some-Some.ensures c.in-Some-Some.ensures'
+    (λ e. c.if-symbol.false (c.symbol.ensures ∙ (e ∙ sym c.symbol-in-Some-Some.ensures))))
+
+pub returns-in-Some-None : goal.returns-in-Some-None
+returns-in-Some-None c = keys_var c.args.rows.now c.args.classes.now c.args.t c.args.u c.in-Some-None.ensures c.in-Some-None.ensures'
+
+pub returns-in-None-default : goal.returns-in-None-default
+returns-in-None-default c = absurd (c.requires.application c.in-None-default.ensures)

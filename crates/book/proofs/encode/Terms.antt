@@ -1,6 +1,6 @@
 -- The terms of rows as numbers and bytes: a row's numbers are its first words, the first terms of a book are followed by
 -- the others, and what rows that can be encoded give. Assumes nothing.
-use Rattle.std.proofs.Common.{◌≡◌, refl, ap, List, [], ◌∷◌, ◌++◌, append-nil, map, ℕ, suc, ◌+◌, ◌*◌, ◌-◌, ◌≤◌, ◌<◌, zero-add, add-one, arith, eq-eqb, ne_eqb, length, get_or, take, drop, length-append, length-drop, drop-cons, length-take-le, T, leb, leb→le}
+use Rattle.std.proofs.Common.{◌≡◌, refl, List, [], ◌∷◌, ◌++◌, append-nil, map, ℕ, suc, ◌+◌, ◌*◌, ◌-◌, ◌≤◌, ◌<◌, zero-add, add-one, arith, eq-eqb, ne_eqb, length, get_or, take, drop, length-append, length-drop, drop-cons, length-take-le, T, leb, leb→le}
 use mathlib.Core.List.{map-append}
 use Rattle.std.proofs.Math.ListN.{length-map}
 use Rattle.leb128.specs.Number.{max_groups, max_number, write}

@@ -4,7 +4,6 @@ ghost use Rattle.std.specs.Prelude.{◌≡◌, ◌≤◌, length, T};
 ghost use Rattle.model.specs.Report.{number_bytes};
 ghost use Rattle.model.specs.BookBytes.{book_bytes};
 ghost use Rattle.model.specs.Archive.{emit_both, call_store};
-ghost use Rattle.theory.specs.Modest.{Modest};
 ghost use Rattle.refusal.specs.Numbers.{number};
 ghost use Rattle.layout.specs.limits.Limits.{limits_of};
 ghost use Rattle.layout.specs.limits.Rows.{book_of};
@@ -64,8 +63,7 @@ pub fn store(
     out: &mut [u8],
     list: &mut [u8],
 ) -> Result<Written, Refusal>
-    requires modest { Modest (limits_of lim) }
-    requires lent { Lent (limits_of lim) rows.old listed.old places.old moved.old }
+    requires { Lent (limits_of lim) rows.old listed.old places.old moved.old }
     ensures { WritesBoth (call_store (limits_of lim) book.now out.old list.old)
         (number result) (book_written result) (list_written result) out.new list.new }
 {

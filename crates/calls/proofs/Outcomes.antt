@@ -7,14 +7,16 @@ use Rattle.model.specs.Area.{word_size, to_bytes, area_bytes, area_length, sound
 use Rattle.model.specs.Call.{refuse, accept, guard, over, stepped, call_add, call_bind}
 use Rattle.theory.proofs.Area.Bytes.{sound_carries}
 use Rattle.theory.proofs.Lists.Laws.{true_T}
-use Rattle.layout.specs.limits.Rows.{Loaded, Sized, loaded_state}
+use Rattle.layout.specs.limits.Rows.{Loaded, Sized, loaded_words, loaded_state}
 use Rattle.step.specs.declared.answer.Step.{Step}
 use Rattle.step.specs.declared.answer.Step.TheVariants.{Add, Bind}
 use Rattle.step.specs.declared.answer.Accepted.{Accepted}
 use Rattle.refusal.specs.declared.Refusal.{Refusal}
 use Rattle.refusal.specs.declared.Refusal.TheVariants.{NotSound}
-use Rattle.refusal.specs.Numbers.{number, refusal_of}
-use Rattle.step.specs.answer.Stepped.{entry_number, turned_number, appended_number, step_numbers, Gives}
+use Rattle.refusal.specs.Numbers.{number_of, number, refusal_of}
+use Rattle.refusal.proofs.Numbers.{none_is_zero}
+use Rattle.step.specs.declared.answer.Stepped.{Stepped}
+use Rattle.step.specs.answer.Stepped.{answer_of, entry_number, turned_number, appended_number, step_numbers, Gives}
 use Rattle.step.specs.take.Taking.{step_of, stored_bytes}
 use Rattle.calls.specs.Called.{call_step, answer_to, Called}
 
@@ -38,18 +40,29 @@ module _ (lim : Limits) (w : Loaded) (step : Step) where
       record { answer = g.0 ∙ rw (ne_eqb n 0 g.2); refusal = g.1; numbers = refused-numbers step e; bytes = refl }
   answered_refused area (accepted ns s) e g = absurd (let no = g.0 in cc)
 
-  answered_accepted : (area area' : List ℕ) (answer : Answer) (a : Accepted) → Gives lim step answer (Ok a) w → area' ≡ stored_bytes w area
-      → Called (stepped lim (count step) area answer) step (Ok a) area'
+  answered_accepted : (area : List ℕ) (answer : Answer) (a : Accepted) → Gives lim step answer (Ok a) w
+      → Called (stepped lim (count step) area answer) step (Ok a) (over (concat_map (to_bytes word_size) (loaded_words w)) area)
   unfolding Gives stepped accept area_bytes answer_to
-  answered_accepted area area' (refused n) a g e = absurd (let no = g.0 in cc)
-  answered_accepted area area' (accepted ns s) a g e =
-      record { answer = g.0; refusal = refl; numbers = g.1; bytes = e ∙ ap (λ ws. over (concat_map (to_bytes word_size) ws) area) g.2.words }
+  answered_accepted area (refused n) a g = absurd (let no = g.0 in cc)
+  answered_accepted area (accepted ns s) a g =
+      record { answer = g.0; refusal = refl; numbers = g.1; bytes = ap (λ ws. over (concat_map (to_bytes word_size) ws) area) g.2.words }
+
+  -- what is kept of it
+  answered : (area : List ℕ) (answer : Answer) (s : Result Stepped Refusal) → Gives lim step answer (answer_of s) w
+      → Called (stepped lim (count step) area answer) step (answer_of s) (stored_bytes (number s) w area)
+  unfolding stored_bytes
+  answered area answer (Ok s) g = answered_accepted area answer s.accepted g
+  answered area answer (Err e) g = rw (ne_eqb (number_of e) 0 (none_is_zero e)) (answered_refused area answer e g)
 
   -- where it is accepted, its parts have their lengths
-  pub answer-sized : (answer : Answer) (a : Accepted) → Gives lim step answer (Ok a) w → Sized lim w
+  sized-accepted : (answer : Answer) (a : Accepted) → Gives lim step answer (Ok a) w → Sized lim w
   unfolding Gives
-  answer-sized (refused n) a g = absurd (let no = g.0 in cc)
-  answer-sized (accepted ns s) a g = g.2.sized
+  sized-accepted (refused n) a g = absurd (let no = g.0 in cc)
+  sized-accepted (accepted ns s) a g = g.2.sized
+
+  pub answer-sized : (answer : Answer) (s : Result Stepped Refusal) → Gives lim step answer (answer_of s) w → number s ≡ 0 → Sized lim w
+  answer-sized answer (Ok s) g z = sized-accepted answer s.accepted g
+  answer-sized answer (Err e) g z = absurd (none_is_zero e z)
 
 module _ (lim : Limits) (area : List ℕ) where
   -- an area that is not sound
@@ -65,13 +78,9 @@ module _ (lim : Limits) (area : List ℕ) where
   of_step (Bind v t) h = rw h
 
   module _ (w w' : Loaded) (step : Step) (t : sound lim area ≡ true) (same : loaded_state w ≡ state_of area lim) where
-    pub called_refused : {e : Refusal} → Gives lim step (step_of lim step (loaded_state w)) (Err e) w' → Called (call_step lim step area) step (Err e) area
-    called_refused {e} g = rw (of_step step t) (answered_refused lim w' step area (step_of lim step (state_of area lim)) e (rw same at g))
-
-    pub called_accepted : {a : Accepted} {area' : List ℕ} → Gives lim step (step_of lim step (loaded_state w)) (Ok a) w'
-        → area' ≡ stored_bytes w' area → Called (call_step lim step area) step (Ok a) area'
-    called_accepted {a} {area'} g e =
-        rw (of_step step t) (answered_accepted lim w' step area area' (step_of lim step (state_of area lim)) a (rw same at g) e)
+    pub called : (s : Result Stepped Refusal) {area' : List ℕ} → Gives lim step (step_of lim step (loaded_state w)) (answer_of s) w'
+        → area' ≡ stored_bytes (number s) w' area → Called (call_step lim step area) step (answer_of s) area'
+    called s g e = rw (of_step step t, e) (answered lim w' step area (step_of lim step (state_of area lim)) s (rw same at g))
 
   -- either call by itself: a line was added, or a choice was fixed
   module _ {a : Result Accepted Refusal} {area' : List ℕ} where

@@ -44,7 +44,7 @@ pub fn call_step(
     let table = &mut entries[..end];
     let s = step::take::take(
         lim, header, rows, bindings, list, roots, names, lines, table, step, index,
-    )?;
+    );
     let state = Held {
         header,
         rows,
@@ -53,5 +53,5 @@ pub fn call_step(
         entries: table,
     };
     step::take::keep(lim, area, s, state);
-    Ok(s.accepted)
+    Ok(s?.accepted)
 }

@@ -7,6 +7,7 @@ ghost use Rattle.model.specs.Step.{is_free};
 ghost use Rattle.model.specs.Area.{term_words};
 ghost use Rattle.layout.specs.limits.Rows.{node_of, book_of, binding_of, bound_of, loaded_state};
 ghost use Rattle.layout.specs.header.Held.{held};
+ghost use Rattle.pairs.specs.Lent.{SameSlices};
 ghost use Rattle.values.specs.roots.Reading.{Listed};
 ghost use Rattle.step.specs.declared.answer.Step.TheVariants.{Bind};
 ghost use Rattle.refusal.specs.Numbers.{number};
@@ -15,6 +16,7 @@ ghost use Rattle.step.specs.bind.Choosing.{Asked, GivenLines, early_refusal};
 
 use crate::answer::Stepped;
 use layout::header::Header;
+use pairs::Index;
 use refusal::Refusal;
 
 // Whether the term `v` is a free variable.
@@ -55,7 +57,7 @@ fn early_refusal(
 }
 
 // Binds the variable `v` to the term `t`: 8, 9, 10, 11, or how many entries turned and how many were appended. Where it is
-// refused, what the slices hold is left free; `lefts`, `rights` and `cells` are scratch.
+// refused, what the slices hold is left free; the index is scratch.
 pub fn bind(
     h: Header,
     rows: &[u32],
@@ -66,20 +68,17 @@ pub fn bind(
     entries: &mut [u32],
     v: u32,
     t: u32,
-    lefts: &mut [u32],
-    rights: &mut [u32],
-    cells: &mut [u32],
+    index: &mut Index,
 ) -> Result<Stepped, Refusal>
-    requires { GivenLines (Asked h rows.now bindings.old list.old roots.old names.old entries.old lefts.old rights.old cells.old) }
-    ensures { (lim : Limits) (lines : List ℕ)
-        → Asked h rows.now bindings.old list.old roots.old names.old entries.old lefts.old rights.old cells.old lim lines
+    requires { GivenLines (Asked h rows.now bindings.old list.old roots.old names.old entries.old index.old.lefts.now index.old.rights.now index.old.cells.now) }
+    ensures chosen { (lim : Limits) (lines : List ℕ)
+        → Asked h rows.now bindings.old list.old roots.old names.old entries.old index.old.lefts.now index.old.rights.now index.old.cells.now lim lines
         → Gives lim (Bind v t) (Step.bind (loaded_state (held h rows.now bindings.old lines entries.old)) v t)
         (answer_of result) (held (header_after h result) rows.now bindings.new lines entries.new) }
+    ensures same_slices { SameSlices index.old index.new }
 {
-    early_refusal(rows, bindings, h.terms, cells, list, v, t)?;
+    early_refusal(rows, bindings, h.terms, index.cells, list, v, t)?;
     let i = v as usize;
     bindings[i] = t + 1;
-    crate::rebuild::rebuild(
-        h, rows, bindings, list, roots, names, entries, lefts, rights, cells,
-    )
+    crate::rebuild::rebuild(h, rows, bindings, list, roots, names, entries, index)
 }

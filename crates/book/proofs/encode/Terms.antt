@@ -1,15 +1,8 @@
 -- The terms of rows as numbers and bytes: a row's numbers are its first words, the first terms of a book are followed by
 -- the others, and what rows that can be encoded give. Assumes nothing.
-use mathlib.Core.Path.{◌≡◌, refl, ap}
-use mathlib.Core.List.{List, [], ◌∷◌, ◌++◌, append-nil, map, map-append}
-use Prim.Native.Nat.{ℕ, suc, ◌+◌, ◌*◌, ◌-◌, ◌≤◌, ◌<◌}
-use native.Mathlib.Nat.{zero-add}
-use native.Mathlib.Numerals.{add-one}
-use native.Mathlib.Omega.{arith}
-use borrow.Author.Tests.{eq-eqb, ne_eqb}
-use lib.ListN.{length, get_or, take, drop, length-append, length-drop, length-map}
-use lib.Seq.{drop-cons, length-take-le}
-use lib.Dec.{T, leb, leb→le}
+use Rattle.std.proofs.Common.{◌≡◌, refl, ap, List, [], ◌∷◌, ◌++◌, append-nil, map, ℕ, suc, ◌+◌, ◌*◌, ◌-◌, ◌≤◌, ◌<◌, zero-add, add-one, arith, eq-eqb, ne_eqb, length, get_or, take, drop, length-append, length-drop, drop-cons, length-take-le, T, leb, leb→le}
+use mathlib.Core.List.{map-append}
+use Rattle.std.proofs.Math.ListN.{length-map}
 use Rattle.leb128.specs.Number.{max_groups, max_number, write}
 use Rattle.model.specs.Limits.{max_arity}
 use Rattle.model.specs.Lists.{all, from, concat_map}

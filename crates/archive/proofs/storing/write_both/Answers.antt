@@ -1,6 +1,5 @@
 -- `write_both` meets its contract: either output is too short, or both are written to. Assumes nothing.
-use Rattle.std.proofs.Common.{◌≡◌, List, ℕ, length, arith}
-use lib.Seq.{take_all}
+use Rattle.std.proofs.Common.{◌≡◌, List, ℕ, length, arith, take_all}
 use Rattle.model.specs.Report.{number_bytes}
 use Rattle.runs.specs.Runs.{run_bytes}
 use Rattle.runs.proofs.Over.{laid_front}

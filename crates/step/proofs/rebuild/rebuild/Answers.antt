@@ -1,6 +1,7 @@
 -- `rebuild::rebuild` meets its contract: the terms have names, so the table is indexed by them, and then walked through. Assumes
 -- nothing.
-use Rattle.table.proofs.index.Standing.{index_sizes}
+use Rattle.std.proofs.Common.{refl}
+use Rattle.table.proofs.visit.Sizes.{index_sizes}
 use Rattle.step.proofs.rebuild.Rebuilt.{to_index, to_walk}
 use Rattle.step.proofs.rebuild.rebuild.Goals as goal
 
@@ -10,7 +11,7 @@ index-requires c =
       book = _;
       bound = _;
       table = _;
-      known = to_index c.requires (c.name_terms.ensures.values c.if-not-name_terms.false) c.name_terms.auto.lefts c.name_terms.auto.rights c.name_terms.auto.cells;
+      known = to_index c.requires (c.name_terms.ensures.values c.if-not-name_terms.false) (index_sizes refl c.name_terms.ensures.same_slices);
     }
 
 pub walk_and_settle-requires : goal.walk_and_settle-requires
@@ -19,12 +20,12 @@ walk_and_settle-requires c =
       book = _;
       bound = _;
       table = _;
-      known = to_walk c.requires (c.name_terms.ensures.values c.if-not-name_terms.false) c.name_terms.auto.lefts c.name_terms.auto.rights c.name_terms.auto.cells
-          (index_sizes c.index.auto.lefts c.index.auto.rights c.index.auto.cells) c.index.ensures;
+      known = to_walk c.requires (c.name_terms.ensures.values c.if-not-name_terms.false) (index_sizes refl c.name_terms.ensures.same_slices)
+          (index_sizes refl c.index.ensures.same_slices) c.index.ensures.indexed;
     }
 
-pub returns : goal.returns
-returns c =
-    c.walk_and_settle.ensures _ _ _
-    (to_walk c.requires (c.name_terms.ensures.values c.if-not-name_terms.false) c.name_terms.auto.lefts c.name_terms.auto.rights c.name_terms.auto.cells
-    (index_sizes c.index.auto.lefts c.index.auto.rights c.index.auto.cells) c.index.ensures)
+pub returns-clause-settled : goal.returns-clause-settled
+returns-clause-settled c =
+    c.walk_and_settle.ensures.settled _ _ _
+    (to_walk c.requires (c.name_terms.ensures.values c.if-not-name_terms.false) (index_sizes refl c.name_terms.ensures.same_slices)
+    (index_sizes refl c.index.ensures.same_slices) c.index.ensures.indexed)

@@ -2,6 +2,7 @@
 -- more entries than the capacity. Assumes nothing.
 use Rattle.std.proofs.Common.{rules}
 use Rattle.std.proofs.lemmas.Result.{err_from_is_err_and}
+use Rattle.table.proofs.visit.Sizes.{index_sizes}
 use Rattle.table.proofs.visit.PlacingAll.{pair-at, placing_none, next_given, placing_full, placing_more}
 use Rattle.table.proofs.visit.place_all.Goals as goal
 
@@ -24,6 +25,6 @@ loop-j-preserved c =
     let p = pair-at c.args.rows.now c.args.l c.args.r c.loop-j.j c.requires.left c.requires.right c.requires.given.known.pairs c.loop-j-test.true in
     record {
       placing = placing_more c.loop-j.invariant.placing p.there p.left p.right c.in_ok-p.ensures.placed
-          (record { entries_size = c.place.auto.entries; left_size = c.place.ensures.same_slices.lefts_long; right_size = c.place.ensures.same_slices.rights_long; cells_size = c.place.ensures.same_slices.cells_long });
+          (index_sizes c.place.auto.entries c.place.ensures.same_slices);
       same = search rules;
     }

@@ -1,7 +1,7 @@
 -- Each turn pushes the hash of one key more, and finds its class.
 use Rattle.std.proofs.Common.{rules, sym, arith}
-use Rattle.values.proofs.roots.Settled.{length-list, turn}
-use Rattle.values.proofs.names.Classifying.{classifying_none, next_row, next_classable, classifying_more, classified}
+use Rattle.values.proofs.roots.Settled.{length-list, turn, next_reads}
+use Rattle.values.proofs.names.Classifying.{classifying_none, next_classable, classifying_more, classified}
 use Rattle.values.proofs.names.classify.Goals as goal
 
 pub slice_bounds-t-items-end : goal.slice_bounds-t-items-end
@@ -14,7 +14,7 @@ loop-k-init c =
 
 pub key_hash-h-requires : goal.key_hash-h-requires
 key_hash-h-requires c =
-    let t = turn c.requires.listed c.loop-k.k c.loop-k-test.true in rw t.1 (next_row c.loop-k.invariant.classifying t.0)
+    let t = turn c.requires.listed c.loop-k.k c.loop-k-test.true in rw t.1 (next_reads c.loop-k.invariant.classifying.filled t.0)
 
 pub class_of-requires : goal.class_of-requires
 class_of-requires c =

@@ -11,7 +11,7 @@ use crate::term::Terms;
 use pairs::Index;
 
 // Whether no value contains itself; then lists the terms, and finds what each stands for and its name. `roots` is scratch
-// until the names are found, and so is the index.
+// until the names are found, and `index` is scratch.
 pub fn name_terms(
     terms: Terms,
     list: &mut [u32],

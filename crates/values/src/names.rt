@@ -136,7 +136,7 @@ fn class_of(terms: Terms, classes: &[u32], list: &[u32], k: usize, place: usize)
     }
 }
 
-// The class of each of the terms, into `classes`. The other slices are scratch.
+// The class of each of the terms, into `classes`. The index is scratch.
 fn classify(terms: Terms, classes: &mut [u32], list: &[u32], index: &mut Index)
     requires scratch { Scratch classes.old index.old.lefts.now index.old.rights.now index.old.cells.now terms.n }
     requires listed { Listed terms.rows.now terms.bindings.now list.now terms.n }
@@ -182,8 +182,7 @@ fn lowest_of_class(classes: &[u32], n: u32, names: &mut [u32], firsts: &mut [u32
     }
 }
 
-// The name of each of the terms, the lowest term with its value, into `names`. The classes and the index are
-// scratch.
+// The name of each of the terms, the lowest term with its value, into `names`. `classes` and `index` are scratch.
 pub fn names(terms: Terms, classes: &mut [u32], list: &[u32], names: &mut [u32], index: &mut Index)
     requires listed { Listed terms.rows.now terms.bindings.now list.now terms.n }
     requires scratch { Scratch classes.old index.old.lefts.now index.old.rights.now index.old.cells.now terms.n }

@@ -16,9 +16,9 @@ const IN_PROGRESS: u32 = 1;
 const FINISHED: u32 = 2;
 
 // How many terms the value of `t` is made of, one step down.
-fn part_count(terms: Terms, t: u32) -> usize
-    requires { t < terms.n }
-    ensures { result ≡ length (parts (book terms.entry) (bound terms.entry) t) }
+fn part_count(terms: &Terms, t: u32) -> usize
+    requires { t < terms.now.n }
+    ensures { result ≡ length (parts (book terms.now) (bound terms.now) t) }
 {
     match (terms.arguments(t), terms.bound(t)) {
         (Some(args), _) => args.len(),
@@ -28,10 +28,10 @@ fn part_count(terms: Terms, t: u32) -> usize
 }
 
 // The `i`-th of them.
-fn part(terms: Terms, t: u32, i: usize) -> u32
-    requires t_lt_n { t < terms.n }
-    requires i_in_bounds { i < length (parts (book terms) (bound terms) t) }
-    ensures { result ≡ get_or (parts (book terms.entry) (bound terms.entry) t) i 0 }
+fn part(terms: &Terms, t: u32, i: usize) -> u32
+    requires t_lt_n { t < terms.now.n }
+    requires i_in_bounds { i < length (parts (book terms.now) (bound terms.now) t) }
+    ensures { result ≡ get_or (parts (book terms.now) (bound terms.now) t) i 0 }
 {
     match terms.arguments(t) {
         Some(args) => args[i],
@@ -40,11 +40,12 @@ fn part(terms: Terms, t: u32, i: usize) -> u32
 }
 
 // Walks term `t`: what its value is made of first, then the term itself, at the next place of the list. Answers how many terms
-// are finished behind it, or none where it met a term in progress.
+// are finished behind it, or none where it met a term in progress. The terms are lent, which keeps them out of each frame of the
+// recursion.
 #[cycle(walk_arguments_walk_term)]
-fn walk_term(terms: Terms, t: u32, marks: &mut [u32], list: &mut [u32], done: u32) -> Option<u32>
-    requires { Walkable terms.rows.now terms.bindings.now terms.n t marks.old list.old done }
-    ensures { WalkAnswers terms.entry.rows.now terms.entry.bindings.now terms.entry.n (t ∷ [])
+fn walk_term(terms: &Terms, t: u32, marks: &mut [u32], list: &mut [u32], done: u32) -> Option<u32>
+    requires { Walkable terms.now.rows.now terms.now.bindings.now terms.now.n t marks.old list.old done }
+    ensures { WalkAnswers terms.now.rows.now terms.now.bindings.now terms.now.n (t ∷ [])
         marks.old marks.new list.new result }
 {
     let mark = marks[t as usize];
@@ -64,15 +65,15 @@ fn walk_term(terms: Terms, t: u32, marks: &mut [u32], list: &mut [u32], done: u3
 // Walks what the value of `t` is made of, one term after the other. Most are finished already, and need no call.
 #[cycle(walk_arguments_walk_term)]
 fn walk_arguments(
-    terms: Terms,
+    terms: &Terms,
     t: u32,
     marks: &mut [u32],
     list: &mut [u32],
     done: u32,
 ) -> Option<u32>
-    requires { Walkable terms.rows.now terms.bindings.now terms.n t marks.old list.old done }
-    ensures { WalkAnswers terms.entry.rows.now terms.entry.bindings.now terms.entry.n
-        (parts (book terms.entry) (bound terms.entry) t)
+    requires { Walkable terms.now.rows.now terms.now.bindings.now terms.now.n t marks.old list.old done }
+    ensures { WalkAnswers terms.now.rows.now terms.now.bindings.now terms.now.n
+        (parts (book terms.now) (bound terms.now) t)
         marks.old marks.new list.new result }
 {
     let mut place = done;
@@ -97,7 +98,7 @@ pub fn order(terms: Terms, marks: &mut [u32], list: &mut [u32]) -> bool
     layout::clearing::clear(marks, terms.n as usize);
     let mut done = 0;
     for t in 0..terms.n {
-        match walk_term(terms, t, marks, list, done) {
+        match walk_term(&terms, t, marks, list, done) {
             Some(place) => done = place,
             None => return false,
         }

@@ -12,7 +12,7 @@ ghost use Rattle.values.specs.roots.Flags.{flagged, any, occurs_step};
 use crate::term::Terms;
 
 // What term `t` stands for, where `roots` says it of the term that it may be bound to.
-#[tactic(auto, unfolding(model::specs::Term::deref_step))]
+#[tactic(auto, using(crate::proofs::roots::Reading::bound_below), unfolding(model::specs::Term::deref_step))]
 fn root_of(terms: Terms, roots: &[u32], t: u32) -> u32
     requires { (t < terms.n) × (terms.n ≤ length roots.now) }
     ensures { result ≡ deref_step (at roots.now) t (node_of terms.entry.rows.now t) (binding_of terms.entry.bindings.now t) }
@@ -43,7 +43,7 @@ fn any_flagged(args: &[u32], flags: &[u32]) -> bool
 }
 
 // Whether `v` occurs in the value of term `t`, where `flags` says it of the terms one step down.
-#[tactic(auto, unfolding(crate::specs::roots::Flags::occurs_step, crate::specs::roots::Flags::flagged))]
+#[tactic(auto, using(crate::proofs::roots::Reading::bound_below, crate::proofs::roots::Reading::arguments_below), unfolding(crate::specs::roots::Flags::occurs_step, crate::specs::roots::Flags::flagged))]
 fn occurs_step(terms: Terms, flags: &[u32], v: u32, t: u32) -> bool
     requires { (t < terms.n) × (terms.n ≤ length flags.now) }
     ensures { result ≡ occurs_step (flagged flags.now) v t (node_of terms.entry.rows.now t) (binding_of terms.entry.bindings.now t) }

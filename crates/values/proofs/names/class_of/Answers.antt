@@ -1,6 +1,5 @@
 -- At each return what was read says which case of a class holds.
-use Rattle.std.proofs.Common.{◌≡◌, sym, ◌∙◌, arith}
-use Rattle.model.specs.Term.{var, app}
+use Rattle.std.proofs.Common.{arith}
 use Rattle.values.proofs.roots.Reading.{bound_below}
 use Rattle.values.proofs.roots.Settled.{list-fits}
 use Rattle.values.proofs.names.ClassOf.{t_lt, earlier_terms, earlier_place, class-free, class-bound, class-new, old-place, class-old}
@@ -9,14 +8,8 @@ use Rattle.values.proofs.names.class_of.Goals as goal
 pub bounds-list-k : goal.bounds-list-k
 bounds-list-k c = omega (arith, list-fits c.requires.listed, c.requires.within)
 
-pub arguments-requires : goal.arguments-requires
-arguments-requires c = t_lt c.requires
-
 pub earlier-requires-clause-terms : goal.earlier-requires-clause-terms
 earlier-requires-clause-terms c = earlier_terms c.requires
-
-pub earlier-requires-clause-application : goal.earlier-requires-clause-application
-earlier-requires-clause-application c = λ e. let z : var ≡ app _ c.in-Some-default.field-0-0.now = sym e ∙ c.in-Some-default.ensures in absurd (cc)
 
 pub earlier-requires-clause-place : goal.earlier-requires-clause-place
 earlier-requires-clause-place c = earlier_place c.requires

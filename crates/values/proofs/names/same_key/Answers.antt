@@ -26,6 +26,3 @@ returns-else-symbol c =
 
 pub returns-in-Some-None : goal.returns-in-Some-None
 returns-in-Some-None c = keys_var c.args.terms.rows.now c.args.classes.now c.args.t c.args.u c.in-Some-None.ensures c.in-Some-None.ensures'
-
-pub returns-in-None-default : goal.returns-in-None-default
-returns-in-None-default c = absurd (c.requires.application c.in-None-default.ensures)

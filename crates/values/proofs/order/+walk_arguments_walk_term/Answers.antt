@@ -71,7 +71,7 @@ walk_term-bounds-list-place t c =
 
 pub walk_term-overflow_add-result : goal.walk_term-overflow_add-result
 walk_term-overflow_add-result t c =
-    let within : c.in_ok-place.place < c.args.terms.n =
+    let within : c.in_ok-place.place < c.args.terms.now.n =
     (next_place (new_at c.requires c.if-mark-eq-FINISHED.false c.if-mark-eq-IN_PROGRESS.false) c.in_ok-place.ensures).0 in
     search rules
 

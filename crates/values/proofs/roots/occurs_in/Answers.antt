@@ -3,16 +3,12 @@ use Rattle.std.proofs.Common.{sym, ap, ◌∙◌, arith}
 use Rattle.model.specs.Term.{val, occurs}
 use Rattle.layout.specs.limits.Rows.{book_of, bound_of}
 use Rattle.values.specs.roots.Flags.{flag}
-use Rattle.values.proofs.roots.Settled.{length-list, turn, next_reads, filled_more, filled_all}
+use Rattle.values.proofs.roots.Settled.{length-list, turn, filled_more, filled_all}
 use Rattle.values.proofs.roots.Flags.{flag-stands, flag-word, occurs-next}
 use Rattle.values.proofs.roots.occurs_in.Goals as goal
 
 pub slice_bounds-u-items-end : goal.slice_bounds-u-items-end
 slice_bounds-u-items-end c = sym (length-list c.requires.listed.0)
-
-pub occurs_step-stands-requires : goal.occurs_step-stands-requires
-occurs_step-stands-requires c =
-    let t = turn c.requires.listed.0 c.loop-u.u-index c.loop-u-test.true in rw t.1 (next_reads c.loop-u.invariant t.0)
 
 -- the term itself
 pub returns-then-u-t : goal.returns-then-u-t

@@ -4,7 +4,6 @@ ghost use Rattle.std.specs.Prelude.{◌≡◌, ◌*◌, length, IfOk, OnOk};
 ghost use Rattle.model.specs.Area.{term_words};
 ghost use Rattle.model.specs.BookBytes.{book_bytes};
 ghost use Rattle.model.specs.Archive.{parse_restored, call_restore};
-ghost use Rattle.theory.specs.Modest.{Modest};
 ghost use Rattle.refusal.specs.Numbers.{number, counted};
 ghost use Rattle.layout.specs.limits.Limits.{limits_of};
 ghost use Rattle.runs.specs.Emits.{Writes};
@@ -32,8 +31,7 @@ fn decode_restored(
     places: &mut [u32],
     moved: &mut [u32],
 ) -> Result<Restored, Refusal>
-    requires modest { Modest (limits_of lim) }
-    requires lent { Lent (limits_of lim) rows.old listed.old places.old moved.old }
+    requires { Lent (limits_of lim) rows.old listed.old places.old moved.old }
     ensures refusal { number result ≡ decoded_refusal (parse_restored (limits_of lim) book.now list.now) }
     ensures terms { IfOk result (λ r. r.terms ≡ length (decoded_book (parse_restored (limits_of lim) book.now list.now))) }
     ensures bytes { IfOk result (λ r. r.bytes ≡ length (book_bytes (decoded_book (parse_restored (limits_of lim) book.now list.now)))) }
@@ -65,8 +63,7 @@ pub fn restore(
     moved: &mut [u32],
     out: &mut [u8],
 ) -> Result<u32, Refusal>
-    requires modest { Modest (limits_of lim) }
-    requires lent { Lent (limits_of lim) rows.old listed.old places.old moved.old }
+    requires { Lent (limits_of lim) rows.old listed.old places.old moved.old }
     ensures { Writes (call_restore (limits_of lim) book.now list.now out.old) (number result) (counted result) out.new }
 {
     let restored = decode_restored(lim, book, list, rows, listed, places, moved)?;

@@ -4,7 +4,6 @@ ghost use Rattle.std.specs.Prelude.{◌≡◌, ◌≤◌, length, T};
 ghost use Rattle.model.specs.Report.{number_bytes};
 ghost use Rattle.model.specs.BookBytes.{book_bytes};
 ghost use Rattle.model.specs.Archive.{emit_both, call_store};
-ghost use Rattle.theory.specs.Modest.{Modest};
 ghost use Rattle.refusal.specs.Numbers.{number};
 ghost use Rattle.layout.specs.limits.Limits.{limits_of};
 ghost use Rattle.layout.specs.limits.Rows.{book_of};
@@ -38,15 +37,14 @@ fn write_both(
     ensures { WritesBoth (emit_both (book_bytes (book_of rows.now (length listed.now))) (number_bytes listed.now) out.old list.old)
         (number result) (book_written result) (list_written result) out.new list.new }
 {
-    let n = listed.len();
     if out.len() < bytes {
         return Err(Refusal::TooShort);
     }
-    if list.len() < runs::run_length(listed, 0, n) {
+    if list.len() < runs::run_length(listed) {
         return Err(Refusal::TooShort);
     }
-    let count = book::encode::encode(rows, n, out);
-    let behind = runs::put_run(listed, 0, n, list, 0);
+    let count = book::encode::encode(rows, listed.len(), out);
+    let behind = runs::put_run(listed, list, 0);
     Ok(Written {
         book: count as u32,
         list: behind as u32,
@@ -64,8 +62,7 @@ pub fn store(
     out: &mut [u8],
     list: &mut [u8],
 ) -> Result<Written, Refusal>
-    requires modest { Modest (limits_of lim) }
-    requires lent { Lent (limits_of lim) rows.old listed.old places.old moved.old }
+    requires { Lent (limits_of lim) rows.old listed.old places.old moved.old }
     ensures { WritesBoth (call_store (limits_of lim) book.now out.old list.old)
         (number result) (book_written result) (list_written result) out.new list.new }
 {

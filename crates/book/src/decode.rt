@@ -3,7 +3,6 @@
 ghost use Rattle.std.specs.Prelude.{◌≡◌, [], ◌*◌, ◌≤◌, length, drop, replicate, OnOk};
 ghost use Rattle.model.specs.Area.{term_words};
 ghost use Rattle.model.specs.BookBytes.{parse_terms, parse_book};
-ghost use Rattle.theory.specs.Modest.{Modest};
 ghost use Rattle.refusal.specs.Numbers.{number, counted};
 ghost use Rattle.layout.specs.limits.Limits.{limits_of};
 ghost use Rattle.book.specs.parse.Parts.{AdvanceOf, BookIn};
@@ -26,7 +25,7 @@ fn read_terms(bytes: &[u8], at: usize, count: u32, rows: &mut [u32]) -> Result<u
 // Decodes a book into the rows of as many terms as the limit, which are all zero, and gives the number of its terms. No bytes are the
 // book without terms. After a refusal nothing is promised of the rows.
 pub fn decode(lim: layout::limits::Limits, bytes: &[u8], rows: &mut [u32]) -> Result<u32, Refusal>
-    requires { Modest (limits_of lim) × (rows.old ≡ replicate (term_words * lim.terms) 0) }
+    requires { rows.old ≡ replicate (term_words * lim.terms) 0 }
     ensures refusal { number result ≡ decoded_refusal (parse_book (limits_of lim) bytes.now) }
     ensures terms { counted result ≡ length (decoded_book (parse_book (limits_of lim) bytes.now)) }
     ensures rows { OnOk result (rows.new ≡ book_rows (term_words * lim.terms) (decoded_book (parse_book (limits_of lim) bytes.now))) }

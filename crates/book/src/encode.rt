@@ -1,4 +1,5 @@
-// Term rows into a book's bytes (specs/encode/Encoding.antt; docs/SPEC.md, "Bytes").
+// Term rows into a book's bytes (specs/encode/Encoding.antt; docs/SPEC.md, "Bytes"). The number of terms stands beside rows that may go on
+// behind them: a slice of just these rows would tell it only by a division, which is no plainer.
 
 ghost use Rattle.std.specs.Prelude.{◌≡◌, [], ◌++◌, ◌≤◌, length, drop, T};
 ghost use Rattle.model.specs.BookBytes.{book_bytes};

@@ -4,7 +4,6 @@
 
 ghost use Rattle.std.specs.Prelude.{◌≡◌, [], ◌*◌, ◌≤◌, length, drop, replicate};
 ghost use Rattle.model.specs.Area.{term_words};
-ghost use Rattle.theory.specs.Modest.{Modest};
 ghost use Rattle.layout.specs.limits.Limits.{limits_of};
 ghost use Rattle.book.specs.unread.Unread.{unread_terms, read_to};
 
@@ -28,7 +27,7 @@ fn terms_read_to(bytes: &[u8], at: usize, count: u32, rows: &mut [u32]) -> usize
 
 // How far a book is read: the position of the part that is refused, and the end where none is. The rows are as for `decode`.
 pub fn read_to(lim: layout::limits::Limits, bytes: &[u8], rows: &mut [u32]) -> usize
-    requires { Modest (limits_of lim) × (rows.old ≡ replicate (term_words * lim.terms) 0) }
+    requires { rows.old ≡ replicate (term_words * lim.terms) 0 }
     ensures { result ≡ read_to (limits_of lim) bytes.now }
 {
     match crate::parse::read_below(bytes, 0, lim.terms as u32 + 1, Refusal::OutOfRange) {

@@ -1,10 +1,5 @@
 -- From a step's answer to the outcome of its call. Assumes nothing.
-use mathlib.Core.Path.{◌≡◌, refl, sym, ap, ◌∙◌}
-use mathlib.Core.List.{List, [], ◌∷◌}
-use mathlib.Core.Bool.{true, false}
-use Prim.Native.Nat.{ℕ, ◌≤◌}
-use lib.ListN.{length, replicate}
-use borrow.Author.Tests.{ne_eqb}
+use Rattle.std.proofs.Common.{◌≡◌, refl, ap, ◌∙◌, List, [], ◌∷◌, true, false, ℕ, ◌≤◌, Result, Ok, Err, length, replicate, ne_eqb}
 use Rattle.model.specs.Limits.{Limits}
 use Rattle.model.specs.Lists.{concat_map}
 use Rattle.model.specs.Step.{State, Answer, refused, accepted}
@@ -12,14 +7,17 @@ use Rattle.model.specs.Area.{word_size, to_bytes, area_bytes, area_length, sound
 use Rattle.model.specs.Call.{refuse, accept, guard, over, stepped, call_add, call_bind}
 use Rattle.theory.proofs.Area.Bytes.{sound_carries}
 use Rattle.theory.proofs.Lists.Laws.{true_T}
-use Rattle.layout.specs.limits.Rows.{Loaded, Sized, loaded_state}
+use Rattle.layout.specs.limits.Rows.{Loaded, Sized, loaded_words, loaded_state}
 use Rattle.step.specs.declared.answer.Step.{Step}
 use Rattle.step.specs.declared.answer.Step.TheVariants.{Add, Bind}
-use Rattle.step.specs.declared.answer.StepAnswer.{StepAnswer}
-use Rattle.step.specs.declared.answer.StepAnswer.TheVariants.{Refused}
-use Rattle.step.specs.answer.Stepped.{refusal_number, entry_number, turned_number, appended_number, step_numbers, accepted_as, Gives}
+use Rattle.step.specs.declared.answer.Accepted.{Accepted}
+use Rattle.refusal.specs.declared.Refusal.{Refusal}
+use Rattle.refusal.specs.declared.Refusal.TheVariants.{NotSound}
+use Rattle.refusal.specs.Numbers.{number_of, number, refusal_of}
+use Rattle.refusal.proofs.Numbers.{none_is_zero}
+use Rattle.step.specs.declared.answer.Stepped.{Stepped}
+use Rattle.step.specs.answer.Stepped.{answer_of, entry_number, turned_number, appended_number, step_numbers, Gives}
 use Rattle.step.specs.take.Taking.{step_of, stored_bytes}
-use Rattle.step.proofs.take.Answers.{stored, not_stored_lem}
 use Rattle.calls.specs.Called.{call_step, answer_to, Called}
 
 -- how many numbers a step answers
@@ -27,48 +25,49 @@ unfoldable count : Step → ℕ
 count (Add l r) = 1
 count (Bind v t) = 2
 
--- a refusal has as many zeros, and an accepted step no refusal
-refused-numbers : (step : Step) (n : ℕ) → step_numbers step (Refused n) ≡ replicate (count step) 0
+-- a refusal has as many zeros
+refused-numbers : (step : Step) (e : Refusal) → step_numbers step (Err e) ≡ replicate (count step) 0
 unfolding count step_numbers
-refused-numbers (Add l r) n = refl
-refused-numbers (Bind v t) n = refl
-
-pub accepted-refusal : (step : Step) (ns : List ℕ) → refusal_number (accepted_as step ns) ≡ 0
-unfolding accepted_as
-accepted-refusal (Add l r) ns = refl
-accepted-refusal (Bind v t) ns = refl
+refused-numbers (Add l r) e = refl
+refused-numbers (Bind v t) e = refl
 
 module _ (lim : Limits) (w : Loaded) (step : Step) where
-  -- what a step gives is the outcome of its answer
-  answered : (area area' : List ℕ) (answer : Answer) (a : StepAnswer) → Gives lim step answer a w → area' ≡ stored_bytes (refusal_number a) w area
-      → Called (stepped lim (count step) area answer) step a area'
-  unfolding Gives stepped refuse accept area_bytes answer_to
-  answered area area' (refused n) a g e =
-      record {
-        answer = g.0 ∙ rw (ne_eqb n 0 g.1);
-        refusal = rw g.0;
-        numbers = rw g.0 (refused-numbers step n);
-        bytes = e ∙ not_stored_lem (refusal_number a) w area (λ h. g.1 (sym (rw g.0) ∙ h));
-      }
-  answered area area' (accepted ns s) a g e =
-      let none : refusal_number a ≡ 0 = rw g.0 (accepted-refusal step ns) in
-      record {
-        answer = g.0;
-        refusal = none;
-        numbers = g.1;
-        bytes = e ∙ stored (refusal_number a) w area none ∙ ap (λ ws. over (concat_map (to_bytes word_size) ws) area) g.2.words;
-      }
+  -- what a step gives is the outcome of its answer: a refused one leaves the area
+  answered_refused : (area : List ℕ) (answer : Answer) (e : Refusal) → Gives lim step answer (Err e) w
+      → Called (stepped lim (count step) area answer) step (Err e) area
+  unfolding Gives stepped refuse answer_to
+  answered_refused area (refused n) e g =
+      record { answer = g.0 ∙ rw (ne_eqb n 0 g.2); refusal = g.1; numbers = refused-numbers step e; bytes = refl }
+  answered_refused area (accepted ns s) e g = absurd (let no = g.0 in cc)
+
+  answered_accepted : (area : List ℕ) (answer : Answer) (a : Accepted) → Gives lim step answer (Ok a) w
+      → Called (stepped lim (count step) area answer) step (Ok a) (over (concat_map (to_bytes word_size) (loaded_words w)) area)
+  unfolding Gives stepped accept area_bytes answer_to
+  answered_accepted area (refused n) a g = absurd (let no = g.0 in cc)
+  answered_accepted area (accepted ns s) a g =
+      record { answer = g.0; refusal = refl; numbers = g.1; bytes = ap (λ ws. over (concat_map (to_bytes word_size) ws) area) g.2.words }
+
+  -- what is kept of it
+  answered : (area : List ℕ) (answer : Answer) (s : Result Stepped Refusal) → Gives lim step answer (answer_of s) w
+      → Called (stepped lim (count step) area answer) step (answer_of s) (stored_bytes (number s) w area)
+  unfolding stored_bytes
+  answered area answer (Ok s) g = answered_accepted area answer s.accepted g
+  answered area answer (Err e) g = rw (ne_eqb (number_of e) 0 (none_is_zero e)) (answered_refused area answer e g)
 
   -- where it is accepted, its parts have their lengths
-  pub answer-sized : (answer : Answer) (a : StepAnswer) → Gives lim step answer a w → refusal_number a ≡ 0 → Sized lim w
+  sized-accepted : (answer : Answer) (a : Accepted) → Gives lim step answer (Ok a) w → Sized lim w
   unfolding Gives
-  answer-sized (refused n) a g e = absurd (g.1 (rw g.0 at e))
-  answer-sized (accepted ns s) a g e = g.2.sized
+  sized-accepted (refused n) a g = absurd (let no = g.0 in cc)
+  sized-accepted (accepted ns s) a g = g.2.sized
+
+  pub answer-sized : (answer : Answer) (s : Result Stepped Refusal) → Gives lim step answer (answer_of s) w → number s ≡ 0 → Sized lim w
+  answer-sized answer (Ok s) g z = sized-accepted answer s.accepted g
+  answer-sized answer (Err e) g z = absurd (none_is_zero e z)
 
 module _ (lim : Limits) (area : List ℕ) where
   -- an area that is not sound
-  pub called_seven : (step : Step) → sound lim area ≡ false → Called (call_step lim step area) step (Refused 7) area
-  unfolding call_step call_add call_bind guard refuse answer_to step_numbers
+  pub called_seven : (step : Step) → sound lim area ≡ false → Called (call_step lim step area) step (Err NotSound) area
+  unfolding call_step call_add call_bind guard refuse answer_to step_numbers refusal_of
   called_seven (Add l r) h = rw h (record { answer = refl; refusal = refl; numbers = refl; bytes = refl })
   called_seven (Bind v t) h = rw h (record { answer = refl; refusal = refl; numbers = refl; bytes = refl })
 
@@ -78,22 +77,21 @@ module _ (lim : Limits) (area : List ℕ) where
   of_step (Add l r) h = rw h
   of_step (Bind v t) h = rw h
 
-  pub called : (w w' : Loaded) (step : Step) {a : StepAnswer} {area' : List ℕ} → sound lim area ≡ true → loaded_state w ≡ state_of area lim
-      → Gives lim step (step_of lim step (loaded_state w)) a w' → area' ≡ stored_bytes (refusal_number a) w' area
-      → Called (call_step lim step area) step a area'
-  called w w' step {a} {area'} t same g e =
-      rw (of_step step t) (answered lim w' step area area' (step_of lim step (state_of area lim)) a (rw same at g) e)
+  module _ (w w' : Loaded) (step : Step) (t : sound lim area ≡ true) (same : loaded_state w ≡ state_of area lim) where
+    pub called : (s : Result Stepped Refusal) {area' : List ℕ} → Gives lim step (step_of lim step (loaded_state w)) (answer_of s) w'
+        → area' ≡ stored_bytes (number s) w' area → Called (call_step lim step area) step (answer_of s) area'
+    called s g e = rw (of_step step t, e) (answered lim w' step area (step_of lim step (state_of area lim)) s (rw same at g))
 
   -- either call by itself: a line was added, or a choice was fixed
-  module _ {a : StepAnswer} {area' : List ℕ} where
+  module _ {a : Result Accepted Refusal} {area' : List ℕ} where
     pub line_added : {l r : ℕ} → Called (call_step lim (Add l r) area) (Add l r) a area'
-        → let o = call_add lim area l r in (refusal_number a ≡ o.refusal) × ((entry_number a ∷ [] ≡ o.numbers) × (area' ≡ o.area))
+        → let o = call_add lim area l r in (number a ≡ o.refusal) × ((entry_number a ∷ [] ≡ o.numbers) × (area' ≡ o.area))
     unfolding call_step step_numbers
     line_added c = (c.refusal, (c.numbers, c.bytes))
 
     pub choice_fixed : {v t : ℕ} → Called (call_step lim (Bind v t) area) (Bind v t) a area'
         → let o = call_bind lim area v t in
-        (refusal_number a ≡ o.refusal) × ((turned_number a ∷ appended_number a ∷ [] ≡ o.numbers) × (area' ≡ o.area))
+        (number a ≡ o.refusal) × ((turned_number a ∷ appended_number a ∷ [] ≡ o.numbers) × (area' ≡ o.area))
     unfolding call_step step_numbers
     choice_fixed c = (c.refusal, (c.numbers, c.bytes))
 

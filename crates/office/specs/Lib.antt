@@ -4,6 +4,8 @@
 --
 -- read     an area read into arrays, for the calls that show what it holds
 -- opening  a book opened in an area
+-- entry    an entry of an area
 
 pub mod read
 pub mod opening
+pub mod entry

@@ -4,43 +4,37 @@ ghost use Rattle.std.specs.Prelude.{◌≡◌};
 ghost use Rattle.model.specs.Limits.{office};
 ghost use Rattle.model.specs.Call.{call_open};
 ghost use Rattle.book.specs.unread.Unread.{read_to};
-ghost use Rattle.office.specs.opening.Offered.{needed_length};
+ghost use Rattle.refusal.specs.Numbers.{number};
+ghost use Rattle.office.specs.opening.Offered.{length_of};
 
-// The length in bytes that an area of this capacity needs, 0 for a capacity out of range.
-pub fn area_length(capacity: u32) -> usize
-    ensures { result ≡ needed_length capacity }
+use refusal::Refusal;
+
+// The length in bytes that an area of this capacity needs; none for a capacity out of range.
+#[tactic(auto, using(std::proofs::lemmas::Bool::Decides::nat_tests), unfolding(crate::specs::opening::Offered::length_of))]
+pub fn area_length(capacity: u32) -> Option<usize>
+    ensures { result ≡ length_of capacity }
 {
-    if capacity < 1 {
-        return 0;
+    let capacity = capacity as usize;
+    if capacity < 1 || layout::limits::OFFICE_CAPACITY < capacity {
+        return None;
     }
-    if layout::limits::OFFICE_CAPACITY < capacity as usize {
-        return 0;
-    }
-    layout::offsets::needed_length(layout::limits::OFFICE, capacity as usize)
+    Some(layout::offsets::needed_length(layout::limits::OFFICE, capacity))
 }
 
 // Opens a book in an area: 4 for the capacity, 7 for an area that is too short, then the book's refusals. Where it is
 // accepted the whole needed length is written, and where it is refused no byte is.
-pub fn open(capacity: u32, book: &[u8], area: &mut [u8]) -> u32
-    ensures refusal { result ≡ (call_open office capacity book.now area.old).refusal }
+pub fn open(capacity: u32, book: &[u8], area: &mut [u8]) -> Result<(), Refusal>
+    ensures refusal { number result ≡ (call_open office capacity book.now area.old).refusal }
     ensures area { area.new ≡ (call_open office capacity book.now area.old).area }
 {
-    let needed = area_length(capacity);
-    if needed == 0 {
-        return 4;
-    }
+    let needed = area_length(capacity).ok_or(Refusal::OutOfRange)?;
     if area.len() < needed {
-        return 7;
+        return Err(Refusal::NotSound);
     }
     let mut rows = [0u32; layout::limits::ROWS];
-    let decoded = book::decode::decode(layout::limits::OFFICE, book, &mut rows);
-    let refusal = decoded.refusal;
-    if refusal != 0 {
-        return refusal;
-    }
-    let terms = decoded.terms;
+    let terms = book::decode::decode(layout::limits::OFFICE, book, &mut rows)?;
     area::save::opened(layout::limits::OFFICE, area, capacity, needed, &rows, terms);
-    0
+    Ok(())
 }
 
 // How far a book is read: the position of the part that is refused, and the end where none is.

@@ -1,9 +1,15 @@
 // An area read into arrays of the office's sizes, for the calls that show what it holds.
 
-ghost use Rattle.std.specs.Prelude.{◌≡◌, true, ◌*◌, length};
+ghost use Rattle.std.specs.Prelude.{◌≡◌, true, false, ◌*◌, length, MatchResult};
 ghost use Rattle.model.specs.Limits.{office};
 ghost use Rattle.model.specs.Area.{term_words, entry_row_words, sound};
+ghost use Rattle.refusal.specs.declared.Refusal.TheVariants.{NotSound};
+ghost use Rattle.area.specs.load.Loading.{header_of};
 ghost use Rattle.office.specs.read.Viewed.{Viewed};
+
+use layout::header::Header;
+use pairs::Index;
+use refusal::Refusal;
 
 // The words of the largest table.
 pub const TABLE_WORDS: usize = layout::limits::ENTRY_WORDS * layout::limits::OFFICE_CAPACITY;
@@ -14,19 +20,20 @@ pub const PAIRS: usize = layout::limits::OFFICE_CAPACITY;
 // The cells of their index.
 pub const CELLS: usize = pairs::BUCKETS + 2 * PAIRS;
 
-// Whether an area is sound; then the slices have the rows of its terms, its lines, the rows of its entries and the names of its
-// terms.
+// The header of an area, 7 where it is not sound; then the slices have the rows of its terms, its lines, the rows of its entries and the
+// names of its terms.
 pub fn read(
     area: &[u8],
     rows: &mut [u32],
     names: &mut [u32],
     lines: &mut [u32],
     entries: &mut [u32],
-) -> bool
+) -> Result<Header, Refusal>
     requires { (length rows.old ≡ term_words * office.max_terms) × (length lines.old ≡ office.max_lines)
         × (length entries.old ≡ entry_row_words * office.max_capacity) × (length names.old ≡ office.max_terms) }
-    ensures sound { result ≡ sound office area.now }
-    ensures held { result ≡ true → Viewed area.now rows.new names.new lines.new entries.new }
+    ensures { MatchResult result
+        (λ h. (sound office area.now ≡ true) × (h ≡ header_of area.now) × Viewed area.now rows.new names.new lines.new entries.new)
+        (λ e. (sound office area.now ≡ false) × (e ≡ NotSound)) }
 {
     let mut bindings = [0u32; layout::limits::OFFICE_TERMS];
     let mut list = [0u32; layout::limits::OFFICE_TERMS];
@@ -34,7 +41,12 @@ pub fn read(
     let mut lefts = [0u32; PAIRS];
     let mut rights = [0u32; PAIRS];
     let mut cells = [0u32; CELLS];
-    area::test::sound(
+    let mut index = Index {
+        lefts: &mut lefts,
+        rights: &mut rights,
+        cells: &mut cells,
+    };
+    if !area::test::sound(
         layout::limits::OFFICE,
         area,
         rows,
@@ -44,8 +56,9 @@ pub fn read(
         names,
         lines,
         entries,
-        &mut lefts,
-        &mut rights,
-        &mut cells,
-    )
+        &mut index,
+    ) {
+        return Err(Refusal::NotSound);
+    }
+    Ok(layout::header::load_header(area))
 }

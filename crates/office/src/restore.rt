@@ -2,12 +2,15 @@
 
 ghost use Rattle.model.specs.Limits.{office};
 ghost use Rattle.model.specs.Archive.{call_restore};
+ghost use Rattle.refusal.specs.Numbers.{number, counted};
 ghost use Rattle.runs.specs.Emits.{Writes};
 
-// Restores a book: that of which `book` is the renumbering by `list`. The book's refusals, the list's (1, 2, 3, 8, 14), then 5, then 13
-// where `out` is too short. `written` is the number of bytes written, 0 on a refusal.
-pub fn restore_book(book: &[u8], list: &[u8], out: &mut [u8], written: &mut u32) -> u32
-    ensures { Writes (call_restore office book.now list.now out.old) result written.new out.new }
+use refusal::Refusal;
+
+// Restores a book: that of which `book` is the renumbering by `list`; gives the number of bytes. The book's refusals, the list's (1, 2, 3,
+// 8, 14), then 5, then 13 where `out` is too short.
+pub fn restore_book(book: &[u8], list: &[u8], out: &mut [u8]) -> Result<u32, Refusal>
+    ensures { Writes (call_restore office book.now list.now out.old) (number result) (counted result) out.new }
 {
     let mut rows = [0u32; layout::limits::ROWS];
     let mut listed = [0u32; layout::limits::OFFICE_TERMS];
@@ -22,6 +25,5 @@ pub fn restore_book(book: &[u8], list: &[u8], out: &mut [u8], written: &mut u32)
         &mut places,
         &mut moved,
         out,
-        written,
     )
 }

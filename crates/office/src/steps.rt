@@ -4,10 +4,12 @@ ghost use Rattle.model.specs.Limits.{office};
 ghost use Rattle.calls.specs.Called.{call_step, Called};
 
 use crate::read::{CELLS, PAIRS, TABLE_WORDS};
-use step::answer::{Step, StepAnswer};
+use pairs::Index;
+use refusal::Refusal;
+use step::answer::{Accepted, Step};
 
 // Takes a step on an area of any length and any bytes.
-pub fn step(area: &mut [u8], step: Step) -> StepAnswer
+pub fn step(area: &mut [u8], step: Step) -> Result<Accepted, Refusal>
     ensures { Called (call_step office step area.old) step result area.new }
 {
     let mut rows = [0u32; layout::limits::ROWS];
@@ -20,6 +22,11 @@ pub fn step(area: &mut [u8], step: Step) -> StepAnswer
     let mut lefts = [0u32; PAIRS];
     let mut rights = [0u32; PAIRS];
     let mut cells = [0u32; CELLS];
+    let mut index = Index {
+        lefts: &mut lefts,
+        rights: &mut rights,
+        cells: &mut cells,
+    };
     calls::call_step(
         layout::limits::OFFICE,
         area,
@@ -31,8 +38,6 @@ pub fn step(area: &mut [u8], step: Step) -> StepAnswer
         &mut lines,
         &mut entries,
         step,
-        &mut lefts,
-        &mut rights,
-        &mut cells,
+        &mut index,
     )
 }

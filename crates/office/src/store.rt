@@ -2,19 +2,18 @@
 
 ghost use Rattle.model.specs.Limits.{office};
 ghost use Rattle.model.specs.Archive.{call_store};
+ghost use Rattle.refusal.specs.Numbers.{number};
 ghost use Rattle.runs.specs.Emits.{WritesBoth};
+ghost use Rattle.archive.specs.storing.Written.{book_written, list_written};
 
-// Stores a book: with its variables first in `out`, and in `list` the old number of each of its terms. The book's refusals, then 13 where
-// either is too short. `written` and `list_written` are the numbers of bytes written to each, 0 on a refusal.
-pub fn store_book(
-    book: &[u8],
-    out: &mut [u8],
-    list: &mut [u8],
-    written: &mut u32,
-    list_written: &mut u32,
-) -> u32
+use archive::storing::Written;
+use refusal::Refusal;
+
+// Stores a book: with its variables first in `out`, and in `list` the old number of each of its terms; gives the numbers of bytes. The
+// book's refusals, then 13 where either is too short.
+pub fn store_book(book: &[u8], out: &mut [u8], list: &mut [u8]) -> Result<Written, Refusal>
     ensures { WritesBoth (call_store office book.now out.old list.old)
-        result written.new list_written.new out.new list.new }
+        (number result) (book_written result) (list_written result) out.new list.new }
 {
     let mut rows = [0u32; layout::limits::ROWS];
     let mut listed = [0u32; layout::limits::OFFICE_TERMS];
@@ -29,7 +28,5 @@ pub fn store_book(
         &mut moved,
         out,
         list,
-        written,
-        list_written,
     )
 }

@@ -1,22 +1,27 @@
 // One step on a loaded state, whichever it is, and what it leaves stored in the area (specs/take/Taking.antt; document 01,
 // "Add a line", "Fix a choice").
 
-ghost use Rattle.std.specs.Prelude.{◌≡◌, ◌≤◌, length, Ok};
+ghost use Rattle.std.specs.Prelude.{◌≡◌, ◌≤◌, length};
 ghost use Rattle.model.specs.Area.{area_length};
-ghost use Rattle.theory.specs.Modest.{Modest};
 ghost use Rattle.layout.specs.limits.Limits.{limits_of};
 ghost use Rattle.layout.specs.limits.Rows.{Sized, loaded_state};
 ghost use Rattle.layout.specs.header.Held.{held};
+ghost use Rattle.pairs.specs.Lent.{SameSlices};
 ghost use Rattle.area.specs.load.Ready.{Lent, Ready};
+ghost use Rattle.refusal.specs.Numbers.{number};
 ghost use Rattle.step.specs.answer.Stepped.{answer_of, header_after, Gives};
-ghost use Rattle.step.specs.take.Taking.{step_of, stored_bytes};
+ghost use Rattle.step.specs.take.Taking.{step_of, state_after, stored_bytes};
 
 use crate::answer::{Step, Stepped};
+use area::load::Held;
 use layout::header::Header;
 use layout::limits::Limits;
+use pairs::Index;
 use refusal::Refusal;
+use table::visit::NamedTerms;
 
-// Takes a step on a loaded state. `lefts`, `rights` and `cells` are scratch.
+// Takes a step on a loaded state. The index is scratch. The slices are parameters here and in what this calls, for the reason said at
+// `area::test::sound`.
 pub fn take(
     lim: Limits,
     h: Header,
@@ -28,47 +33,41 @@ pub fn take(
     lines: &mut [u32],
     entries: &mut [u32],
     step: Step,
-    lefts: &mut [u32],
-    rights: &mut [u32],
-    cells: &mut [u32],
+    index: &mut Index,
 ) -> Result<Stepped, Refusal>
-    requires modest { Modest (limits_of lim) }
     requires ready { Ready (limits_of lim) (held h rows.now bindings.old lines.old entries.old) list.old roots.old names.old }
-    requires lent { Lent (limits_of lim) list.old roots.old names.old lefts.old rights.old cells.old }
-    ensures { Gives (limits_of lim) step (step_of (limits_of lim) step (loaded_state (held h rows.now bindings.old lines.old entries.old)))
+    requires lent { Lent (limits_of lim) list.old roots.old names.old index.old.lefts.now index.old.rights.now index.old.cells.now }
+    ensures gives { Gives (limits_of lim) step (step_of (limits_of lim) step (loaded_state (held h rows.now bindings.old lines.old entries.old)))
         (answer_of result) (held (header_after h result) rows.now bindings.new lines.new entries.new) }
+    ensures same_slices { SameSlices index.old index.new }
 {
     match step {
-        Step::Add(l, r) => crate::add_line::add_line(
-            lim, h, rows, roots, names, lines, entries, l, r, lefts, rights, cells,
-        ),
-        Step::Bind(v, t) => crate::bind::bind(
-            h, rows, bindings, list, roots, names, entries, v, t, lefts, rights, cells,
-        ),
+        Step::Add(l, r) => {
+            let terms = NamedTerms { rows, roots, names };
+            crate::add_line::add_line(lim, h, terms, lines, entries, l, r, index)
+        }
+        Step::Bind(v, t) => {
+            crate::bind::bind(h, rows, bindings, list, roots, names, entries, v, t, index)
+        }
     }
 }
 
-// Stores the state after an accepted step.
-pub fn keep(
-    lim: Limits,
-    area: &mut [u8],
-    h: Header,
-    s: Stepped,
-    rows: &[u32],
-    bindings: &[u32],
-    lines: &[u32],
-    entries: &[u32],
-)
-    requires modest { Modest (limits_of lim) }
-    requires fits { area_length (limits_of lim) h.capacity ≤ length area.old }
-    requires sized { Sized (limits_of lim) (held (header_after h (Ok s)) rows.now bindings.now lines.now entries.now) }
-    ensures { area.new ≡ stored_bytes (held (header_after h (Ok s)) rows.now bindings.now lines.now entries.now) area.old }
+// Stores the state after a step that was accepted: `state` has what the slices hold after it, under the header before it. A refused
+// one changes no byte.
+#[tactic(auto, using(refusal::proofs::Numbers::none_is_zero), unfolding(crate::specs::take::Taking::stored_bytes))]
+pub fn keep(lim: Limits, area: &mut [u8], s: Result<Stepped, Refusal>, state: Held)
+    requires fits { area_length (limits_of lim) state.header.capacity ≤ length area.old }
+    requires sized { number s ≡ 0 → Sized (limits_of lim) (state_after s state) }
+    ensures { area.new ≡ stored_bytes (number s) (state_after s state.entry) area.old }
 {
-    let header = Header {
-        capacity: h.capacity,
-        terms: h.terms,
-        entries: s.entries,
-        lines: s.lines,
+    let header = match s {
+        Ok(s) => Header {
+            entries: s.entries,
+            lines: s.lines,
+            ..state.header
+        },
+        Err(_) => return,
     };
-    area::save::store(lim, area, header, rows, bindings, lines, entries);
+    let after = Held { header, ..state };
+    after.store(lim, area);
 }

@@ -1,12 +1,6 @@
 -- The inverse of a list, number by number. A place is taken where the number that stands there is this one. Assumes nothing.
-use mathlib.Core.Path.{◌≡◌, refl, ap, sym, ◌∙◌}
-use mathlib.Core.List.{List}
-use mathlib.Core.Bool.{true, false}
-use Prim.Native.Nat.{ℕ, ◌+◌, ◌<◌}
+use Rattle.std.proofs.Common.{◌≡◌, refl, ap, sym, ◌∙◌, List, true, false, ℕ, ◌+◌, ◌<◌, arith, length, set, get_or-set_same, get_or-set_other}
 use native.Mathlib.Decide.{dec_lt}
-use native.Mathlib.Omega.{arith}
-use lib.ListN.{length, set}
-use lib.Seq.{get_or-set_same, get_or-set_other}
 use Rattle.model.specs.Archive.{new_number, old_number, all_distinct}
 use Rattle.theory.specs.Numbering.{Distinct}
 use Rattle.theory.specs.Archive.{EachOnce}

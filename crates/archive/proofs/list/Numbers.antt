@@ -1,14 +1,6 @@
 -- The numbers of a list read one after the other. Assumes nothing.
-use mathlib.Core.Path.{◌≡◌, refl, sym, ap, ◌∙◌}
-use mathlib.Core.List.{List, [], ◌∷◌, ◌++◌}
-use mathlib.Core.Bool.{Bool, true, false, not, ◌&&◌, ◌||◌}
-use Prim.Native.Nat.{ℕ, zero, suc, ◌+◌, ◌-◌, ◌≤◌, ◌<◌}
-use native.Mathlib.Nat.{zero-add, suc-add}
-use native.Mathlib.Omega.{arith}
-use lib.ListN.{length, set, take, drop, length-set}
-use lib.Seq.{take-suc-set, take_all}
-use lib.Dec.{ltb, leb}
-use borrow.Author.Tests.{ltb-true, ltb-false, le-leb, lt-leb, not-true, not-false}
+use Rattle.std.proofs.Common.{◌≡◌, refl, sym, ap, ◌∙◌, List, [], ◌∷◌, ◌++◌, Bool, true, false, not, ◌&&◌, ◌||◌, ℕ, zero, suc, ◌+◌, ◌-◌, ◌≤◌, ◌<◌, zero-add, suc-add, arith, length, set, take, drop, length-set, take-suc-set, take_all, ltb, leb, ltb-true, ltb-false, le-leb}
+use borrow.Author.Tests.{lt-leb, not-true, not-false}
 use Rattle.std.specs.List.{list_any}
 use Rattle.model.specs.Lists.{all}
 use Rattle.model.specs.BookBytes.{Parsed, parsed, unparsed, and_then, need, parse_number}

@@ -1,13 +1,7 @@
 -- The terms of one kind, one term more; both kinds are the list of a stored book. Assumes nothing.
-use mathlib.Core.Path.{◌≡◌, refl, ap, ap₂, sym, ◌∙◌}
-use mathlib.Core.List.{List, [], ◌∷◌, ◌++◌, append-nil}
-use mathlib.Core.Bool.{Bool, true, false, cond, not, beq}
-use Prim.Native.Nat.{ℕ, ◌+◌, ◌*◌, ◌-◌, ◌≤◌, ◌<◌}
-use native.Mathlib.Nat.{zero-add}
-use native.Mathlib.Omega.{arith}
-use lib.ListN.{length, get_or, set, length-append}
-use lib.Seq.{sets, length-sets}
-use lib.Dec.{eqb}
+use Rattle.std.proofs.Common.{◌≡◌, refl, ap, ap₂, sym, ◌∙◌, List, [], ◌∷◌, ◌++◌, append-nil, Bool, true, false, cond, not, ℕ, ◌+◌, ◌*◌, ◌-◌, ◌≤◌, ◌<◌, zero-add, arith, length, get_or, set, length-append, eqb}
+use mathlib.Core.Bool.{beq}
+use Rattle.std.proofs.Math.Seq.{sets, length-sets}
 use Rattle.model.specs.Lists.{keep, from}
 use Rattle.model.specs.Term.{var, app}
 use Rattle.model.specs.Area.{term_words}

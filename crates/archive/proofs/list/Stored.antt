@@ -1,10 +1,6 @@
 -- Numbers stored over a whole slice, and over a part of one. Assumes nothing.
-use mathlib.Core.Path.{◌≡◌, sym, ◌∙◌}
-use mathlib.Core.List.{List, append-nil, append_assoc}
-use Prim.Native.Nat.{ℕ, ◌+◌, ◌≤◌}
-use native.Mathlib.Omega.{arith}
-use lib.ListN.{length, take, drop, drop_of_length-le}
-use lib.Seq.{sets, sets-eq, drop-drop}
+use Rattle.std.proofs.Common.{◌≡◌, sym, ◌∙◌, List, append-nil, append_assoc, ℕ, ◌+◌, ◌≤◌, arith, length, take, drop, drop_of_length-le, drop-drop}
+use Rattle.std.proofs.Math.Seq.{sets, sets-eq}
 use borrow.Rule.Slice.PartMut.{put_mid}
 
 pub sets_whole : (xs ys : List ℕ) → length ys ≡ length xs → sets xs 0 ys ≡ ys

@@ -1,16 +1,10 @@
 -- Arguments moved one after the other, and a term moved. Assumes nothing.
-use mathlib.Core.Path.{◌≡◌, refl, ap, sym, ◌∙◌}
-use mathlib.Core.List.{List, [], ◌∷◌, ◌++◌, map, map-append}
-use mathlib.Core.Bool.{Bool, true, ◌&&◌, and-true}
-use Prim.Native.Nat.{ℕ, suc, ◌+◌, ◌*◌, ◌-◌, ◌≤◌, ◌<◌}
-use native.Mathlib.Nat.{zero-add}
-use native.Mathlib.Numerals.{add-one}
-use native.Mathlib.Omega.{arith}
-use borrow.Author.Tests.{eq-eqb, ne_eqb}
+use Rattle.std.proofs.Common.{◌≡◌, refl, ap, sym, ◌∙◌, List, [], ◌∷◌, ◌++◌, map, Bool, true, ◌&&◌, ℕ, suc, ◌+◌, ◌*◌, ◌-◌, ◌≤◌, ◌<◌, zero-add, add-one, arith, eq-eqb, ne_eqb, length, set, take, drop, length-append, length-drop, length-set, take-suc, take_all, length-take-le, ltb}
+use mathlib.Core.List.{map-append}
+use mathlib.Core.Bool.{and-true}
 use borrow.Rule.Slice.PartMut.{put_mid}
-use lib.ListN.{length, set, take, drop, length-append, length-map, length-drop, length-set}
-use lib.Seq.{sets, take-suc, take_all, length-take-le}
-use lib.Dec.{ltb}
+use Rattle.std.proofs.Math.ListN.{length-map}
+use Rattle.std.proofs.Math.Seq.{sets}
 use Rattle.model.specs.Limits.{max_arity}
 use Rattle.leb128.specs.Number.{max_groups, write}
 use Rattle.leb128.proofs.Writing.{one_byte_lem}

@@ -1,9 +1,5 @@
 -- Rows that hold a book can be moved by a list that names every term once, and by its inverse. Assumes nothing.
-use mathlib.Core.Path.{◌≡◌, refl, ap, sym, ◌∙◌}
-use mathlib.Core.List.{List}
-use Prim.Native.Nat.{ℕ, ◌*◌, ◌≤◌, ◌<◌}
-use native.Mathlib.Omega.{arith}
-use lib.ListN.{length, get_or}
+use Rattle.std.proofs.Common.{◌≡◌, refl, ap, sym, ◌∙◌, List, ℕ, ◌*◌, ◌≤◌, ◌<◌, arith, length, get_or}
 use Rattle.model.specs.Term.{var, arguments, Book, Bindings}
 use Rattle.model.specs.Area.{term_words}
 use Rattle.model.specs.Archive.{new_number, old_number, moved}

@@ -1,9 +1,5 @@
 -- A book moved by functions that agree on its terms. Assumes nothing.
-use mathlib.Core.Path.{◌≡◌, refl, ap, ap₂}
-use mathlib.Core.List.{List, [], ◌∷◌, map}
-use Prim.Native.Nat.{ℕ, suc, ◌<◌, zero-le, suc-le-suc}
-use native.Mathlib.Nat.{zero-add}
-use lib.ListN.{length, get_or}
+use Rattle.std.proofs.Common.{◌≡◌, refl, ap, ap₂, List, [], ◌∷◌, map, ℕ, suc, ◌<◌, zero-le, suc-le-suc, zero-add, length, get_or}
 use Rattle.model.specs.Term.{Node, var, app, arguments, Book}
 use Rattle.model.specs.Archive.{renumbered, moved}
 use Rattle.theory.proofs.Lists.From.{map-from-same}

@@ -1,13 +1,8 @@
 -- Terms moved one after the other. Assumes nothing.
-use mathlib.Core.Path.{◌≡◌, refl, ap, ap₂, sym, ◌∙◌}
-use mathlib.Core.List.{List, [], ◌∷◌, ◌++◌, append-nil, map}
-use mathlib.Core.Bool.{Bool, true, false, cond, ◌&&◌, and-true}
-use Prim.Native.Nat.{ℕ, zero, suc, ◌+◌, ◌*◌, ◌-◌, ◌≤◌, ◌<◌, zero-le}
-use native.Mathlib.Nat.{zero-add}
-use native.Mathlib.Omega.{arith}
-use lib.ListN.{length, get_or, take, drop, replicate, length-append, length-map, length-take, get_or-append}
-use lib.Seq.{sets, get_or-append_seam}
-use lib.Dec.{eqb, ltb}
+use Rattle.std.proofs.Common.{◌≡◌, refl, ap, ap₂, sym, ◌∙◌, List, [], ◌∷◌, ◌++◌, append-nil, map, Bool, true, false, cond, ◌&&◌, ℕ, zero, suc, ◌+◌, ◌*◌, ◌-◌, ◌≤◌, ◌<◌, zero-le, zero-add, arith, length, get_or, take, drop, replicate, length-append, length-take, eqb, ltb}
+use mathlib.Core.Bool.{and-true}
+use Rattle.std.proofs.Math.ListN.{length-map, get_or-append}
+use Rattle.std.proofs.Math.Seq.{sets, get_or-append_seam}
 use Rattle.leb128.specs.Number.{max_groups, write}
 use Rattle.model.specs.Limits.{max_arity}
 use Rattle.model.specs.Lists.{all, from, concat_map}
@@ -17,7 +12,6 @@ use Rattle.model.specs.Report.{number_bytes}
 use Rattle.model.specs.BookBytes.{node_numbers, book_bytes}
 use Rattle.model.specs.Archive.{renumbered, moved, arguments_lower}
 use Rattle.theory.proofs.Lists.Laws.{all_append, from-append, concat_map-append}
-use Rattle.theory.proofs.Lists.Rows.{length-padded}
 use Rattle.theory.proofs.Lists.From.{length-map-from, map-from-append, map-from-same}
 use Rattle.theory.proofs.Archive.Formed.{renumbered-count}
 use Rattle.layout.specs.limits.Rows.{at, node_of, book_of}
@@ -128,12 +122,6 @@ module _ (rows : List ℕ) (n : ℕ) (source target : List ℕ) where
               (omega (arith, m.long, b));
           small = omega (arith, m.small, b, numbers i l);
         }
-
-    -- they fill their words
-    pub terms-long : {size : ℕ} {moved : List ℕ} {lower : Bool} {bytes i : ℕ} → TermsMoved size moved lower bytes i → term_words * n ≤ size → length moved ≡ size
-    unfolding book_rows
-    terms-long {size} {moved} {lower} {bytes} {i} m room =
-        rw m.written (length-padded size (concat_map node_words (terms i)) (rw (m.wide, length-map-from term 0 i) (omega (arith, m.few))))
 
     -- all of them are the book moved
     whole : terms n ≡ moved_book rows n source target

@@ -1,13 +1,7 @@
 -- Restoring a book by way of its rows, refusal by refusal; the rows moved hold the book that is restored. Assumes nothing.
-use mathlib.Core.Path.{◌≡◌, refl, ap, sym, ◌∙◌}
-use mathlib.Core.List.{List, [], map}
-use mathlib.Core.Bool.{Bool, true, false}
+use Rattle.std.proofs.Common.{◌≡◌, refl, ap, sym, ◌∙◌, List, [], map, Bool, true, false, ℕ, ◌*◌, ◌<◌, arith, length, take, replicate, Result, Ok, Err, IfOk, OnOk, T, ltb, ltb→lt}
 use mathlib.Core.Option.{none}
-use Prim.Native.Nat.{ℕ, ◌*◌, ◌<◌}
-use native.Mathlib.Omega.{arith}
-use lib.ListN.{length, take, replicate, length-replicate}
-use Rattle.std.specs.Prelude.{Result, Ok, Err, IfOk, OnOk}
-use lib.Dec.{T, ltb, ltb→lt}
+use Rattle.std.proofs.Math.ListN.{length-replicate}
 use Rattle.model.specs.Limits.{Limits}
 use Rattle.model.specs.Lists.{all, is_empty}
 use Rattle.model.specs.Term.{Node, Book, Bindings}

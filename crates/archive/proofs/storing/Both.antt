@@ -1,10 +1,7 @@
 -- Two outputs: either too short, or both written. Assumes nothing.
-use mathlib.Core.Path.{◌≡◌, refl}
-use mathlib.Core.List.{List, ◌++◌}
+use Rattle.std.proofs.Common.{◌≡◌, refl, List, ◌++◌, ℕ, ◌≤◌, ◌<◌, length, drop, le-leb}
 use mathlib.Core.Bool.{and-false}
-use Prim.Native.Nat.{ℕ, ◌≤◌, ◌<◌}
-use lib.ListN.{length, drop}
-use borrow.Author.Tests.{le-leb, lt-leb}
+use borrow.Author.Tests.{lt-leb}
 use Rattle.model.specs.Call.{over}
 use Rattle.model.specs.Archive.{Stored, not_stored, emit_both}
 use Rattle.runs.specs.Emits.{WritesBoth}

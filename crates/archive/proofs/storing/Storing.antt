@@ -1,14 +1,7 @@
 -- Storing a book by way of its rows: the rows hold what is stored, and what is written of them is the outcome of the call. Assumes nothing.
-use mathlib.Core.Path.{◌≡◌, refl, ap, ap₂, sym, ◌∙◌}
-use mathlib.Core.List.{List, [], map}
-use mathlib.Core.Bool.{Bool, true, false, true≢false}
+use Rattle.std.proofs.Common.{◌≡◌, refl, ap, ap₂, sym, ◌∙◌, List, [], map, Bool, true, false, true≢false, ℕ, ◌*◌, ◌≤◌, ◌<◌, arith, length, get_or, take, replicate, length-take-le, Result, Ok, Err, MatchResult, OnOk, IsOk, le→leb}
 use mathlib.Core.Option.{none}
-use Prim.Native.Nat.{ℕ, ◌*◌, ◌≤◌, ◌<◌}
-use native.Mathlib.Omega.{arith}
-use lib.ListN.{length, get_or, take, replicate, length-replicate}
-use lib.Seq.{length-take-le}
-use Rattle.std.specs.Prelude.{Result, Ok, Err, MatchResult, OnOk, IsOk}
-use lib.Dec.{le→leb}
+use Rattle.std.proofs.Math.ListN.{length-replicate}
 use Rattle.leb128.specs.Number.{max_number}
 use Rattle.model.specs.Limits.{Limits}
 use Rattle.model.specs.Term.{Node, Book, Bindings}

@@ -18,7 +18,7 @@ pub header_refused : (lim : Limits) (area : List ℕ) → Modest lim → T (are_
 header_refused lim area m bytes e = sym (sound_by_parts lim m area bytes ∙ rw e)
 
 -- a header is the area's when its numbers are
-is_header : (area : List ℕ) (h : Header) → HeaderOf area h → h ≡ header_of area
+pub is_header : (area : List ℕ) (h : Header) → HeaderOf area h → h ≡ header_of area
 unfolding header_of
 is_header area h e = λ i. record { capacity = e.0 i; terms = e.1 i; entries = e.2 i; lines = e.3 i }
 

@@ -1,15 +1,10 @@
 -- The arguments of a term, one after the other: what holds after i of them (`Read`), at first, after one more, at a refusal
 -- and at the end. Assumes nothing.
-use mathlib.Core.Path.{◌≡◌, refl, ap, ◌∙◌}
-use mathlib.Core.List.{List, [], ◌∷◌, ◌++◌}
-use Prim.Native.Nat.{ℕ, suc, ◌+◌, ◌*◌, ◌-◌, ◌<◌, ◌≤◌}
-use native.Mathlib.Nat.{sub-zero}
-use native.Mathlib.Omega.{arith}
-use lib.ListN.{length, drop, set, length-append}
-use lib.Seq.{sets}
+use Rattle.std.proofs.Common.{◌≡◌, refl, ap, ◌∙◌, List, [], ◌∷◌, ◌++◌, ℕ, suc, ◌+◌, ◌*◌, ◌-◌, ◌<◌, ◌≤◌, arith, length, drop, set, length-append, Ok}
+use Rattle.std.proofs.Math.Nat.{sub-zero}
+use Rattle.std.proofs.Math.Seq.{sets}
 use Rattle.model.specs.Area.{term_words}
 use Rattle.model.specs.BookBytes.{parsed, unparsed, parse_arguments}
-use Rattle.std.specs.Prelude.{Ok}
 use Rattle.book.specs.parse.Below.{parse_below}
 use Rattle.book.specs.parse.Parts.{AdvanceOf, ArgumentsIn}
 use Rattle.book.proofs.decode.Parsing.{behind, behind_none, behind_more, behind_refused, behind_last}

@@ -1,16 +1,11 @@
 -- The terms of a book, one after the other: what holds after t of them (`Read`), at first, after one more, at a refusal and
 -- at the end. Assumes nothing.
-use mathlib.Core.Path.{◌≡◌, refl, sym, ap, ◌∙◌}
-use mathlib.Core.List.{List, [], ◌∷◌, ◌++◌}
-use Prim.Native.Nat.{ℕ, suc, ◌+◌, ◌*◌, ◌-◌, ◌<◌, ◌≤◌}
-use native.Mathlib.Nat.{sub-zero}
-use native.Mathlib.Omega.{arith}
-use lib.ListN.{length, drop, replicate, length-append}
+use Rattle.std.proofs.Common.{◌≡◌, refl, sym, ap, ◌∙◌, List, [], ◌∷◌, ◌++◌, ℕ, suc, ◌+◌, ◌*◌, ◌-◌, ◌<◌, ◌≤◌, arith, length, drop, replicate, length-append, Result, Ok, Err}
+use Rattle.std.proofs.Math.Nat.{sub-zero}
 use Rattle.model.specs.Lists.{concat_map}
 use Rattle.model.specs.Term.{Node, Book}
 use Rattle.model.specs.Area.{term_words, node_words}
 use Rattle.model.specs.BookBytes.{Parsed, unparsed, and_then, parse_number, parse_node, parse_terms}
-use Rattle.std.specs.Prelude.{Result, Ok, Err}
 use Rattle.refusal.specs.declared.Refusal.{Refusal}
 use Rattle.refusal.specs.Numbers.{number_of}
 use Rattle.book.specs.decode.Rows.{book_rows}

@@ -1,12 +1,6 @@
 -- The parts of decoding (specs/parse/Parts.antt) against the definition of decoding in crate model. Assumes nothing.
-use mathlib.Core.Path.{◌≡◌, refl, sym, ◌∙◌}
-use mathlib.Core.List.{List, [], ◌∷◌, ◌++◌, append-nil}
-use mathlib.Core.Bool.{Bool, true, false}
-use Prim.Native.Nat.{ℕ, zero, suc, ◌≤◌}
-use native.Mathlib.Omega.{arith}
-use borrow.Author.Tests.{leb-true, leb-false, lt-ltb, le-ltb, le-leb}
-use lib.Seq.{append_snoc}
-use lib.Dec.{ltb, leb}
+use Rattle.std.proofs.Common.{◌≡◌, refl, sym, ◌∙◌, List, [], ◌∷◌, ◌++◌, append-nil, Bool, true, false, ℕ, zero, suc, ◌≤◌, arith, leb-true, leb-false, lt-ltb, le-ltb, le-leb, ltb, leb}
+use Rattle.std.proofs.Math.Seq.{append_snoc}
 use Rattle.model.specs.Limits.{max_arity, max_symbol}
 use Rattle.model.specs.Term.{Node}
 use Rattle.model.specs.BookBytes.{Parsed, parsed, unparsed, and_then, need, parse_number, parse_arguments, parse_app, parse_node}

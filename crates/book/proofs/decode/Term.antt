@@ -1,11 +1,6 @@
 -- One term: the outcomes of decoding it, and what its row holds after it. Assumes nothing.
-use mathlib.Core.Path.{◌≡◌, refl, sym, ◌∙◌}
-use mathlib.Core.List.{List}
-use Prim.Native.Nat.{ℕ, zero, suc, ◌+◌, ◌*◌, ◌-◌, ◌≤◌}
-use native.Mathlib.Numerals.{add-one, add-two}
-use native.Mathlib.Omega.{arith}
-use lib.ListN.{length, set, drop}
-use Rattle.std.specs.Prelude.{Result, Ok, Err}
+use Rattle.std.proofs.Common.{◌≡◌, refl, sym, ◌∙◌, List, ℕ, zero, suc, ◌+◌, ◌*◌, ◌-◌, ◌≤◌, add-one, arith, length, set, drop, Result, Ok, Err}
+use native.Mathlib.Numerals.{add-two}
 use Rattle.leb128.specs.declared.Number.{Number}
 use Rattle.model.specs.Limits.{max_arity, max_symbol}
 use Rattle.model.specs.Term.{Node, var, app}

@@ -1,11 +1,8 @@
 -- A term's row behind the rows of a book: storing its numbers gives the rows of the book with the term. Assumes nothing.
-use mathlib.Core.Path.{◌≡◌, refl}
-use mathlib.Core.List.{List, [], ◌∷◌, ◌++◌, append_assoc, append-nil}
-use Prim.Native.Nat.{ℕ, zero, suc, ◌+◌, ◌*◌, ◌-◌, ◌≤◌}
-use native.Mathlib.Nat.{add-zero, add-suc, suc-add, sub-zero, zero-sub, suc-sub-suc}
-use native.Mathlib.Omega.{arith}
-use lib.ListN.{length, drop, set, replicate, length-append, length-replicate, replicate-append-replicate}
-use lib.Seq.{sets, sets-eq, take-append_seam, drop-append-add}
+use Rattle.std.proofs.Common.{◌≡◌, refl, List, [], ◌∷◌, ◌++◌, append_assoc, append-nil, ℕ, zero, suc, ◌+◌, ◌*◌, ◌-◌, ◌≤◌, add-zero, add-suc, suc-add, arith, length, drop, set, replicate, length-append}
+use Rattle.std.proofs.Math.Nat.{sub-zero, zero-sub, suc-sub-suc}
+use Rattle.std.proofs.Math.ListN.{length-replicate, replicate-append-replicate}
+use Rattle.std.proofs.Math.Seq.{sets, sets-eq, take-append_seam, drop-append-add}
 use Rattle.model.specs.Limits.{max_arity}
 use Rattle.model.specs.Lists.{concat_map, padded}
 use Rattle.model.specs.Term.{Node, var, app, Book}

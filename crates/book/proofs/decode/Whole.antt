@@ -1,19 +1,12 @@
 -- A whole book: the outcomes of decoding it, and what its decoder answers. Assumes nothing.
-use mathlib.Core.Path.{◌≡◌, refl, sym, ap, subst, ◌∙◌}
-use mathlib.Core.List.{List, []}
-use mathlib.Core.Bool.{true, false}
-use Prim.Native.Nat.{ℕ, ◌+◌, ◌-◌, ◌<◌, ◌≤◌}
-use native.Mathlib.Numerals.{add-one}
-use native.Mathlib.Nat.{sub_self}
-use native.Mathlib.Omega.{arith}
-use lib.ListN.{length, drop, replicate, drop_of_length-le, length-replicate, length-drop}
-use lib.Seq.{drop-cons}
+use Rattle.std.proofs.Common.{◌≡◌, refl, sym, ap, subst, ◌∙◌, List, [], true, false, ℕ, ◌+◌, ◌-◌, ◌<◌, ◌≤◌, add-one, arith, length, drop, replicate, drop_of_length-le, length-drop, drop-cons, Result, Ok, Err, OnOk}
+use Rattle.std.proofs.Math.Nat.{sub_self}
+use Rattle.std.proofs.Math.ListN.{length-replicate}
 use Rattle.model.specs.Limits.{Limits}
 use Rattle.model.specs.Lists.{is_empty}
 use Rattle.model.specs.Term.{Book}
 use Rattle.model.specs.BookBytes.{parsed, unparsed, and_then, need, parse_terms, parse_written, parse_book}
 use Rattle.theory.proofs.Book.Written.{none_written, some_written}
-use Rattle.std.specs.Prelude.{Result, Ok, Err, OnOk}
 use Rattle.refusal.specs.declared.Refusal.{Refusal}
 use Rattle.refusal.specs.declared.Refusal.TheVariants.{LeftOver}
 use Rattle.refusal.specs.Numbers.{number_of, number, counted}

@@ -1,10 +1,5 @@
 -- Rows that hold a book can be written. Assumes nothing.
-use mathlib.Core.Path.{◌≡◌}
-use mathlib.Core.List.{List}
-use Prim.Native.Nat.{ℕ, ◌+◌, ◌*◌, ◌≤◌}
-use native.Mathlib.Omega.{arith}
-use lib.ListN.{length}
-use lib.Dec.{T}
+use Rattle.std.proofs.Common.{◌≡◌, List, ℕ, ◌+◌, ◌*◌, ◌≤◌, arith, length, T}
 use Rattle.leb128.specs.Number.{max_groups}
 use Rattle.model.specs.Limits.{office}
 use Rattle.model.specs.Term.{Book, Bindings}

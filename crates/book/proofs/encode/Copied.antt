@@ -1,10 +1,6 @@
 -- A book copied by way of its rows: what is emitted of the rows is the outcome of the call. Assumes nothing.
-use mathlib.Core.Path.{◌≡◌, refl, ap, ◌∙◌}
-use mathlib.Core.List.{List, [], map}
+use Rattle.std.proofs.Common.{◌≡◌, refl, ap, ◌∙◌, List, [], map, ℕ, ◌*◌, ◌≤◌, arith, length}
 use mathlib.Core.Option.{none}
-use Prim.Native.Nat.{ℕ, ◌*◌, ◌≤◌}
-use native.Mathlib.Omega.{arith}
-use lib.ListN.{length}
 use Rattle.model.specs.Limits.{Limits}
 use Rattle.model.specs.Term.{Node, Book, Bindings}
 use Rattle.model.specs.Area.{term_words}

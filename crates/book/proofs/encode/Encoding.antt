@@ -1,9 +1,5 @@
 -- The encoder's loop: the number of terms is laid at the front, then term after term behind it. Assumes nothing.
-use mathlib.Core.Path.{◌≡◌, subst, ◌∙◌}
-use mathlib.Core.List.{List, ◌++◌}
-use Prim.Native.Nat.{ℕ, ◌+◌, ◌≤◌, ◌<◌}
-use native.Mathlib.Omega.{arith}
-use lib.ListN.{length, drop, length-append}
+use Rattle.std.proofs.Common.{◌≡◌, subst, ◌∙◌, List, ◌++◌, ℕ, ◌+◌, ◌≤◌, ◌<◌, arith, length, drop, length-append}
 use Rattle.leb128.specs.Number.{max_groups, write}
 use Rattle.model.specs.BookBytes.{book_bytes}
 use Rattle.layout.specs.limits.Rows.{book_of}

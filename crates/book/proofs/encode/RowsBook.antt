@@ -1,13 +1,5 @@
 -- The rows of a book whose terms obey the rules hold that book and can be encoded, and its bytes are few. Assumes nothing.
-use mathlib.Core.Path.{◌≡◌, refl, sym, ap, ap₂, ◌∙◌}
-use mathlib.Core.List.{List, [], ◌∷◌, ◌++◌, append_assoc}
-use Prim.Native.Nat.{ℕ, suc, ◌+◌, ◌*◌, ◌-◌, ◌≤◌, ◌<◌, zero-le, suc-le-suc}
-use native.Mathlib.Nat.{add-zero, zero-add}
-use native.Mathlib.Omega.{arith}
-use borrow.Author.Tests.{ne_eqb}
-use lib.ListN.{length, get_or, drop, replicate, length-append, take-append-drop}
-use lib.Seq.{take_at, get_or-drop, drop-drop}
-use lib.Dec.{T, leb, le→leb}
+use Rattle.std.proofs.Common.{◌≡◌, refl, sym, ap, ap₂, ◌∙◌, List, [], ◌∷◌, ◌++◌, append_assoc, ℕ, suc, ◌+◌, ◌*◌, ◌-◌, ◌≤◌, ◌<◌, zero-le, suc-le-suc, add-zero, zero-add, arith, ne_eqb, length, get_or, drop, replicate, length-append, take-append-drop, take_at, get_or-drop, drop-drop, T, leb, le→leb}
 use Rattle.leb128.specs.Number.{max_groups, max_number}
 use Rattle.model.specs.Limits.{max_arity}
 use Rattle.model.specs.Lists.{all, from, concat_map, padded}

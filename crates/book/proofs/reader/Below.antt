@@ -1,14 +1,5 @@
 -- The number at a position, and what the reader of a number below a limit answers, against the definition of a number in crate model. Assumes nothing.
-use mathlib.Core.Path.{◌≡◌, refl, sym, ap, subst, ◌∙◌}
-use mathlib.Core.List.{List}
-use mathlib.Core.Bool.{Bool, true, false, cond}
-use Prim.Native.Nat.{ℕ, ◌+◌, ◌-◌, ◌<◌, ◌≤◌}
-use native.Mathlib.Omega.{arith}
-use borrow.Author.Tests.{ltb-true}
-use lib.ListN.{length, drop, length-drop}
-use lib.Seq.{drop-drop}
-use lib.Dec.{ltb}
-use Rattle.std.specs.Prelude.{Result, Ok, Err}
+use Rattle.std.proofs.Common.{◌≡◌, refl, sym, ap, subst, ◌∙◌, List, Bool, true, false, cond, ℕ, ◌+◌, ◌-◌, ◌<◌, ◌≤◌, arith, ltb-true, length, drop, length-drop, drop-drop, ltb, Result, Ok, Err}
 use Rattle.leb128.specs.Number.{max_groups, max_number, Read, number, cut, invalid, read}
 use Rattle.leb128.specs.Answer.{placed, read_at}
 use Rattle.leb128.specs.declared.Number.{Number}

@@ -1,12 +1,7 @@
 -- What is not read of a book stands from the position on up to which it is read; a book that is accepted is read to its end; and of one that is
 -- refused, the part at that position is refused. Assumes nothing.
-use mathlib.Core.Path.{◌≡◌, refl, sym, ap, ◌∙◌}
-use mathlib.Core.List.{List, [], ◌∷◌, ◌++◌}
-use Prim.Native.Nat.{ℕ, zero, suc, ◌+◌, ◌-◌, ◌<◌, ◌≤◌}
-use native.Mathlib.Nat.{sub-zero}
-use native.Mathlib.Omega.{arith}
-use lib.ListN.{length, drop, length-append, length-drop}
-use lib.Dec.{ltb, leb}
+use Rattle.std.proofs.Common.{◌≡◌, refl, sym, ap, ◌∙◌, List, [], ◌∷◌, ◌++◌, ℕ, zero, suc, ◌+◌, ◌-◌, ◌<◌, ◌≤◌, arith, length, drop, length-append, length-drop, ltb, leb}
+use Rattle.std.proofs.Math.Nat.{sub-zero}
 use Rattle.leb128.specs.Number.{max_groups, max_number, Read, number, cut, invalid, read_groups, at_most, read}
 use Rattle.leb128.specs.Answer.{placed, read_at}
 use Rattle.model.specs.Limits.{Limits, max_arity, max_symbol}

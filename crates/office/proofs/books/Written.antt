@@ -1,10 +1,6 @@
 -- Writing the book of an area: what was read of it holds the book, and what is emitted of it is the outcome of the call. Assumes
 -- nothing.
-use mathlib.Core.Path.{◌≡◌, ◌∙◌}
-use mathlib.Core.List.{List, []}
-use mathlib.Core.Bool.{true, false}
-use Prim.Native.Nat.{ℕ, ◌*◌}
-use native.Mathlib.Omega.{arith}
+use Rattle.std.proofs.Common.{◌≡◌, ◌∙◌, List, [], true, false, ℕ, ◌*◌, arith}
 use Rattle.model.specs.Limits.{office}
 use Rattle.model.specs.Area.{term_words, word, sound, state_of}
 use Rattle.model.specs.BookBytes.{book_bytes}

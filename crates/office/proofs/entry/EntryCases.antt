@@ -1,10 +1,5 @@
 -- What reading an entry answers, case by case. Assumes nothing.
-use mathlib.Core.Path.{◌≡◌, sym, ap}
-use mathlib.Core.List.{List, []}
-use mathlib.Core.Bool.{true, false}
-use Prim.Native.Nat.{ℕ, ◌≤◌, ◌<◌}
-use lib.ListN.{length, replicate}
-use borrow.Author.Tests.{lt-ltb, le-ltb}
+use Rattle.std.proofs.Common.{◌≡◌, sym, ap, List, [], true, false, ℕ, ◌≤◌, ◌<◌, length, replicate, lt-ltb, le-ltb}
 use Rattle.model.specs.Limits.{Limits}
 use Rattle.model.specs.Table.{entry}
 use Rattle.model.specs.Area.{entry_row_words, entry_words, word, sound, state_of}

@@ -1,10 +1,5 @@
 -- Reporting an area: what was read of it tells its state, and what is emitted of it is the outcome of the call. Assumes nothing.
-use mathlib.Core.Path.{◌≡◌, refl}
-use mathlib.Core.List.{List, []}
-use mathlib.Core.Bool.{true, false}
-use Prim.Native.Nat.{ℕ, ◌*◌, ◌≤◌}
-use native.Mathlib.Omega.{arith}
-use lib.ListN.{length, take, length-take}
+use Rattle.std.proofs.Common.{◌≡◌, refl, List, [], true, false, ℕ, ◌*◌, ◌≤◌, arith, length, take, length-take}
 use Rattle.model.specs.Limits.{office}
 use Rattle.model.specs.Area.{entry_row_words, word, sound, state_of}
 use Rattle.model.specs.Report.{report_bytes}

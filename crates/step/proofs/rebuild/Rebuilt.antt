@@ -1,5 +1,5 @@
 -- A table under bindings that have changed: with the terms named anew it can be indexed, and then walked through. Assumes nothing.
-use Rattle.std.proofs.Common.{◌≡◌, sym, List, ℕ, ◌≤◌, arith, length}
+use Rattle.std.proofs.Common.{sym, List, ℕ, ◌≤◌, arith}
 use Rattle.layout.specs.limits.Rows.{book_of, bound_of, table_of}
 use Rattle.layout.proofs.limits.Rows.{length-book_of, length-table_of}
 use Rattle.layout.specs.declared.header.Header.{Header}
@@ -23,9 +23,9 @@ module _ {h : Header} {rows bindings list roots names entries lefts rights cells
 
   -- The terms are named, in scratch that is as long as it was.
   module _ {list' roots' names' lefts' rights' cells' : List ℕ} (v : Valued rows bindings list' roots' names' h.terms)
-      (left : length lefts' ≡ length lefts) (right : length rights' ≡ length rights) (cell : length cells' ≡ length cells) where
+      (kept : SameSizes entries lefts rights cells entries lefts' rights' cells') where
     room : Room lefts' rights' cells' h.capacity
-    room = room_kept r.for_entries left right cell
+    room = room_kept r.for_entries kept.left_size kept.right_size kept.cells_size
 
     pub to_index : ToIndex names' entries lefts' rights' cells' h.entries (book_of rows h.terms) (bound_of bindings h.terms) (table_of entries h.entries)
     to_index =

@@ -1,5 +1,5 @@
 -- An indexed table stands in its slices. Assumes nothing.
-use Rattle.std.proofs.Common.{◌≡◌, refl, List, ℕ, ◌*◌, length}
+use Rattle.std.proofs.Common.{◌≡◌, List, ℕ, ◌*◌, length}
 use Rattle.model.specs.Term.{Book, Bindings}
 use Rattle.model.specs.Table.{Table}
 use Rattle.model.specs.Area.{entry_row_words}
@@ -8,12 +8,6 @@ use Rattle.pairs.proofs.Rooms.{room_kept}
 use Rattle.table.specs.place.Stands.{Stands}
 use Rattle.table.proofs.visit.Sizes.{SameSizes}
 use Rattle.table.specs.index.Indexing.{ToIndex, IsIndexed}
-
--- the index leaves the rows, and each of its slices keeps its length
-pub index_sizes : {entries lefts rights cells lefts' rights' cells' : List ℕ}
-    → length lefts' ≡ length lefts → length rights' ≡ length rights → length cells' ≡ length cells
-    → SameSizes entries lefts rights cells entries lefts' rights' cells'
-index_sizes l r k = record { entries_size = refl; left_size = l; right_size = r; cells_size = k }
 
 -- an indexed table stands in its slices
 pub indexed-stands : {names entries lefts rights cells lefts' rights' cells' : List ℕ} {capacity m : ℕ} {b : Book} {β : Bindings} {es : Table}

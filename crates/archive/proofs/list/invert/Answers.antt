@@ -4,9 +4,6 @@ use Rattle.archive.proofs.list.Inverting.{Placed, placed-more, twice, placed-onc
 use Rattle.archive.proofs.list.invert.Goals as goal
 use Rattle.archive.proofs.list.invert.Goals.{else-j-i-via-then-j-i+else-listed-j, else-j-i-via-else-j-i}
 
-pub loop-i-init : goal.loop-i-init
-loop-i-init c = λ j l. absurd (omega arith)
-
 pub returns-then-listed-j-clause-distinct : goal.returns-then-listed-j-clause-distinct
 returns-then-listed-j-clause-distinct c = (twice _ _ _ c.if-j-i.true c.loop-i-test.true c.if-listed-j.true, refl)
 

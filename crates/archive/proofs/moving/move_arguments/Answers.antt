@@ -1,6 +1,5 @@
 -- `move_arguments` meets its contract: each argument has a new number, of at most three bytes. Assumes nothing.
-use Rattle.std.proofs.Common.{get_or, arith}
-use borrow.Author.Tests.{lt-ltb, le-ltb}
+use Rattle.std.proofs.Common.{get_or, arith, lt-ltb, le-ltb}
 use mathlib.Core.Bool.{and-true, and-false}
 use Rattle.runs.proofs.Numbers.{length-write}
 use Rattle.archive.proofs.moving.Arguments.{moved_none, moved_more, moved-small, moved_all}

@@ -6,6 +6,7 @@ use Rattle.model.specs.Archive.{call_restore}
 use Rattle.theory.proofs.Archive.Calls.{restored_positive}
 use Rattle.book.proofs.encode.BookHeld.{held-encodable, held-book, held-few}
 use Rattle.book.proofs.encode.Copied.{copied_refused, copied}
+use Rattle.layout.proofs.limits.Modest.{modest}
 use Rattle.archive.proofs.restoring.Restoring.{restored_decoded}
 use Rattle.archive.proofs.restoring.restore.Goals as goal
 
@@ -18,11 +19,11 @@ returns-in_err-restored c =
 pub write_measured-requires : goal.write_measured-requires
 write_measured-requires c =
     let e = c.in_ok-restored.ensures in
-    let d = (restored_decoded _ c.requires.modest _ _ _ _ (sym e.refusal) e.terms e.rows).held in
+    let d = (restored_decoded _ (modest c.args.lim) _ _ _ _ (sym e.refusal) e.terms e.rows).held in
     (held-encodable d, omega (arith, held-few d), e.bytes ∙ ap (λ b. length (book_bytes b)) (sym (held-book d)))
 
 pub returns : goal.returns
 unfolding call_restore
 returns c =
     let e = c.in_ok-restored.ensures in
-    copied _ _ (restored_positive _ _ _) (restored_decoded _ c.requires.modest _ _ _ _ (sym e.refusal) e.terms e.rows) c.write_measured.ensures
+    copied _ _ (restored_positive _ _ _) (restored_decoded _ (modest c.args.lim) _ _ _ _ (sym e.refusal) e.terms e.rows) c.write_measured.ensures

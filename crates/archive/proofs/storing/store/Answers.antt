@@ -4,7 +4,7 @@ use Rattle.std.proofs.Common.{sym, arith}
 use Rattle.std.proofs.lemmas.Result.{err_from_is_err_and}
 use Rattle.book.proofs.encode.BookHeld.{held-encodable, held-few}
 use Rattle.book.proofs.encode.Copied.{book_decoded, decoded_few}
-use Rattle.archive.proofs.moving.Held.{held_rows}
+use Rattle.layout.proofs.limits.Modest.{modest}
 use Rattle.archive.proofs.storing.Storing.{listed-room, places-room, moved-room, moved-blank, part_fits, part_long, store_refused, long, listed-low, distinct, small-list, lists_moved, stored_held, stored_bytes_lem, stored_written, inverted}
 use Rattle.archive.proofs.storing.store.Goals as goal
 
@@ -16,55 +16,48 @@ returns-in_err-terms c =
 pub slice_bounds-listed-end : goal.slice_bounds-listed-end
 slice_bounds-listed-end c =
     let e = c.in_ok-terms.ensures in
-    part_fits _ _ (book_decoded _ c.requires.modest _ _ _ (sym e.refusal) e.terms e.rows) _ (listed-room c.requires.lent)
+    part_fits _ _ (book_decoded _ (modest c.args.lim) _ _ _ (sym e.refusal) e.terms e.rows) _ (listed-room c.requires)
 
 pub slice_bounds-listed-end-2 : goal.slice_bounds-listed-end-2
 slice_bounds-listed-end-2 c =
     let e = c.in_ok-terms.ensures in
-    sym (part_long _ _ (book_decoded _ c.requires.modest _ _ _ (sym e.refusal) e.terms e.rows) _ (listed-room c.requires.lent))
+    sym (part_long _ _ (book_decoded _ (modest c.args.lim) _ _ _ (sym e.refusal) e.terms e.rows) _ (listed-room c.requires))
 
 pub slice_bounds-places-end : goal.slice_bounds-places-end
 slice_bounds-places-end c =
     let e = c.in_ok-terms.ensures in
-    part_fits _ _ (book_decoded _ c.requires.modest _ _ _ (sym e.refusal) e.terms e.rows) _ (places-room c.requires.lent)
+    part_fits _ _ (book_decoded _ (modest c.args.lim) _ _ _ (sym e.refusal) e.terms e.rows) _ (places-room c.requires)
 
 pub slice_bounds-places-end-2 : goal.slice_bounds-places-end-2
 slice_bounds-places-end-2 c =
     let e = c.in_ok-terms.ensures in
-    sym (part_long _ _ (book_decoded _ c.requires.modest _ _ _ (sym e.refusal) e.terms e.rows) _ (places-room c.requires.lent))
-
-pub variables_first-requires : goal.variables_first-requires
-variables_first-requires c =
-    let e = c.in_ok-terms.ensures in
-    let d = book_decoded _ c.requires.modest _ _ _ (sym e.refusal) e.terms e.rows in
-    let many = part_long _ _ d _ (listed-room c.requires.lent) in
-    (rw many (held_rows d.held), omega (arith, many, decoded_few _ _ d, c.requires.modest.terms))
+    sym (part_long _ _ (book_decoded _ (modest c.args.lim) _ _ _ (sym e.refusal) e.terms e.rows) _ (places-room c.requires))
 
 pub invert-requires : goal.invert-requires
 invert-requires c =
-    let m = c.requires.modest in
+    let m = modest c.args.lim in
     let e = c.in_ok-terms.ensures in
     let d = book_decoded _ m _ _ _ (sym e.refusal) e.terms e.rows in
-    let room = listed-room c.requires.lent in
+    let room = listed-room c.requires in
     let n = long _ _ d m _ _ room c.variables_first.ensures in (
-      omega (arith, n, part_long _ _ d _ (places-room c.requires.lent)),
+      omega (arith, n, part_long _ _ d _ (places-room c.requires)),
       omega (arith, n, decoded_few _ _ d, m.terms),
       listed-low _ _ d m _ _ room c.variables_first.ensures,
     )
 
 pub unwrap-requires : goal.unwrap-requires
 unwrap-requires c =
-    let m = c.requires.modest in
+    let m = modest c.args.lim in
     let e = c.in_ok-terms.ensures in
     let d = book_decoded _ m _ _ _ (sym e.refusal) e.terms e.rows in
-    (inverted _ _ (distinct _ _ d m _ _ (listed-room c.requires.lent) c.variables_first.ensures) c.invert.ensures.distinct c.invert.ensures.places).0
+    (inverted _ _ (distinct _ _ d m _ _ (listed-room c.requires) c.variables_first.ensures) c.invert.ensures.distinct c.invert.ensures.places).0
 
 pub move_terms-found-requires : goal.move_terms-found-requires
 move_terms-found-requires c =
-    let m = c.requires.modest in
+    let m = modest c.args.lim in
     let e = c.in_ok-terms.ensures in
     let d = book_decoded _ m _ _ _ (sym e.refusal) e.terms e.rows in
-    let lent = c.requires.lent in
+    let lent = c.requires in
     let room = listed-room lent in
     let n = long _ _ d m _ _ room c.variables_first.ensures in (
       lists_moved _ _ d m _ _ room c.variables_first.ensures _ _ (places-room lent) c.invert.auto.places,
@@ -75,10 +68,10 @@ move_terms-found-requires c =
 
 pub write_both-requires : goal.write_both-requires
 write_both-requires c =
-    let m = c.requires.modest in
+    let m = modest c.args.lim in
     let e = c.in_ok-terms.ensures in
     let d = book_decoded _ m _ _ _ (sym e.refusal) e.terms e.rows in
-    let lent = c.requires.lent in
+    let lent = c.requires in
     let room = listed-room lent in
     let list = c.variables_first.ensures in
     let v = (inverted _ _ (distinct _ _ d m _ _ room list) c.invert.ensures.distinct c.invert.ensures.places).1 in
@@ -92,10 +85,10 @@ write_both-requires c =
 
 pub returns : goal.returns
 returns c =
-    let m = c.requires.modest in
+    let m = modest c.args.lim in
     let e = c.in_ok-terms.ensures in
     let d = book_decoded _ m _ _ _ (sym e.refusal) e.terms e.rows in
-    let lent = c.requires.lent in
+    let lent = c.requires in
     let room = listed-room lent in
     let list = c.variables_first.ensures in
     let v = (inverted _ _ (distinct _ _ d m _ _ room list) c.invert.ensures.distinct c.invert.ensures.places).1 in

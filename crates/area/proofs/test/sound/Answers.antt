@@ -1,6 +1,6 @@
 -- `test::sound` meets its contract. A header that is not in order decides; else the words are loaded and tested, and what one
 -- test finds is what the next one asks. Assumes nothing.
-use Rattle.std.proofs.Common.{◌≡◌, true, sym, ◌∙◌, T}
+use Rattle.std.proofs.Common.{rules, ◌≡◌, true, sym, ◌∙◌, T}
 use Rattle.std.proofs.Math.Seq.{length-take-le}
 use Rattle.model.specs.Term.{acyclic}
 use Rattle.theory.proofs.Lists.Laws.{true_T}
@@ -8,6 +8,7 @@ use Rattle.layout.specs.limits.Limits.{limits_of}
 use Rattle.layout.specs.limits.Rows.{Loaded, book_of, bound_of}
 use Rattle.layout.specs.header.Held.{held}
 use Rattle.layout.proofs.limits.Modest.{modest}
+use Rattle.pairs.specs.Lent.{SameSlices}
 use Rattle.pairs.proofs.Rooms.{room_kept}
 use Rattle.soundness.specs.sound.Sound.{header_ok, rows_ok}
 use Rattle.values.specs.evaluate.Valued.{Valued}
@@ -37,6 +38,14 @@ named c =
       | else-rows_ok w ↦ absurd cc
     ]
 
+-- and the index lends the same slices
+same_index : (c : Then-name_terms) → SameSlices c.args.index.now c.if-rows_ok.index
+same_index c =
+    elim c.if-rows_ok.branch [
+      | then-rows_ok w ↦ rw w.index-is w.name_terms.ensures.same_slices
+      | else-rows_ok w ↦ rw w.index-is (search rules)
+    ]
+
 pub returns-then-not-header_ok-clause-sound : goal.returns-then-not-header_ok-clause-sound
 returns-then-not-header_ok-clause-sound c =
     header_refused _ _ (modest c.args.lim) (are_bytes_lem _ c.type_inv.area) (sym c.header_ok.ensures ∙ c.if-not-header_ok.true)
@@ -61,11 +70,13 @@ pub rows_ok-requires : goal.rows_ok-requires
 rows_ok-requires c =
     used _ _ (in_order (goal.at.rows_ok-requires c).Else-not-header_ok) _ c.load_header-header.ensures c.load.ensures
 
+pub invariant_of-name_terms : goal.invariant_of-name_terms
+invariant_of-name_terms c =
+    let ok = in_order (goal.at.invariant_of-name_terms c).Else-not-header_ok in
+    record { good = good-terms (state-at (goal.at.invariant_of-name_terms c).After-load) (used _ _ ok _ c.load_header-header.ensures c.load.ensures) (true_T _ (sym c.rows_ok.ensures ∙ c.if-rows_ok.true)) }
+
 pub name_terms-requires : goal.name_terms-requires
-name_terms-requires c =
-    let ok = in_order (goal.at.name_terms-requires c).Else-not-header_ok in
-    let head = c.load_header-header.ensures in
-    (good-terms (state-at (goal.at.name_terms-requires c).After-load) (used _ _ ok _ head c.load.ensures) (true_T _ (sym c.rows_ok.ensures ∙ c.if-rows_ok.true)), room-terms _ _ ok _ head c.requires.lent)
+name_terms-requires c = room-terms _ _ (in_order (goal.at.name_terms-requires c).Else-not-header_ok) _ c.load_header-header.ensures c.requires.lent
 
 pub table_ok-requires-clause-known : goal.table_ok-requires-clause-known
 table_ok-requires-clause-known c =
@@ -79,8 +90,8 @@ table_ok-requires-clause-known c =
 
 pub table_ok-requires-clause-room : goal.table_ok-requires-clause-room
 table_ok-requires-clause-room c =
-    let kept = c.if-rows_ok.auto in
-    room_kept (room-entries _ _ (in_order (goal.at.table_ok-requires-clause-room c).Else-not-header_ok) _ c.load_header-header.ensures c.requires.lent) kept.lefts kept.rights kept.cells
+    let kept = same_index (goal.at.table_ok-requires-clause-room c).Then-name_terms in
+    room_kept (room-entries _ _ (in_order (goal.at.table_ok-requires-clause-room c).Else-not-header_ok) _ c.load_header-header.ensures c.requires.lent) kept.lefts_long kept.rights_long kept.cells_long
 
 pub returns-then-name_terms-clause-sound : goal.returns-then-name_terms-clause-sound
 returns-then-name_terms-clause-sound c =
@@ -89,7 +100,7 @@ returns-then-name_terms-clause-sound c =
     let head = c.load_header-header.ensures in
     let n = named at.Then-name_terms in
     decides _ _ ok _ head c.load.ensures (modest c.args.lim) (are_bytes_lem _ c.type_inv.area)
-    (table_decides (state-at at.After-load) n.0 n.1 (c.table_ok.ensures _ _ (table-known (state-at at.After-load) (used _ _ ok _ head c.load.ensures) (true_T _ n.0) n.2)))
+    (table_decides (state-at at.After-load) n.0 n.1 (c.table_ok.ensures.right _ _ (table-known (state-at at.After-load) (used _ _ ok _ head c.load.ensures) (true_T _ n.0) n.2)))
 
 pub returns-then-name_terms-clause-read : goal.returns-then-name_terms-clause-read
 returns-then-name_terms-clause-read c =
@@ -98,7 +109,7 @@ returns-then-name_terms-clause-read c =
     let head = c.load_header-header.ensures in
     let n = named at.Then-name_terms in
     let size = c.load.auto.entries ∙ length-take-le _ _ (cut_fits _ _ ok _ head c.requires.sizes) in
-    let e = table_decides (state-at at.After-load) n.0 n.1 (c.table_ok.ensures _ _ (table-known (state-at at.After-load) (used _ _ ok _ head c.load.ensures) (true_T _ n.0) n.2)) in
+    let e = table_decides (state-at at.After-load) n.0 n.1 (c.table_ok.ensures.right _ _ (table-known (state-at at.After-load) (used _ _ ok _ head c.load.ensures) (true_T _ n.0) n.2)) in
     λ h. cut-read _ _ _ head size (area-read _ _ ok _ head c.load.ensures (modest c.args.lim) (are_bytes_lem _ c.type_inv.area) e h n.2) _
 
 pub returns-else-name_terms-clause-sound : goal.returns-else-name_terms-clause-sound

@@ -1,7 +1,7 @@
 -- `read_below` meets its contract: what the reader of numbers answers is the model's outcome, and the test compares with the
 -- limit. Assumes nothing.
 use Rattle.std.proofs.lemmas.Result.{err_from_is_err_and}
-use borrow.Author.Tests.{lt-ltb, le-ltb}
+use Rattle.std.proofs.Common.{lt-ltb, le-ltb}
 use Rattle.book.proofs.reader.Below.{part_answered}
 use Rattle.book.proofs.parse.read_below.Goals as goal
 

@@ -8,8 +8,8 @@ use Rattle.book.proofs.unread.read_to.Goals as goal
 pub terms_read_to-requires : goal.terms_read_to-requires
 terms_read_to-requires c =
     let read = part_says c.args.bytes.now 0 _ OutOfRange c.in-Ok.ensures in
-    let long = zeros-length _ c.requires.1 in
-    (read.1, omega (arith, below-small _ 4 _ _ _ read.0), rw long c.requires.1)
+    let long = zeros-length _ c.requires in
+    (read.1, omega (arith, below-small _ 4 _ _ _ read.0), rw long c.requires)
 
 pub returns-in-Err : goal.returns-in-Err
 returns-in-Err c = read_none _ _ _ (part_says c.args.bytes.now 0 _ OutOfRange c.in-Err.ensures)

@@ -5,26 +5,26 @@ use Rattle.std.proofs.lemmas.Result.{err_from_is_err_and}
 use Rattle.step.proofs.add_line.Answers.{left-refused, right-refused, lines-refused, grow_given, full_refused, count_fits, line_added}
 use Rattle.step.proofs.add_line.add_line.Goals as goal
 
-pub returns-then-h-l : goal.returns-then-h-l
-returns-then-h-l c = left-refused _ _ _ _ c.if-h-l.true
+pub returns-then-h-l-clause-added : goal.returns-then-h-l-clause-added
+returns-then-h-l-clause-added c = left-refused _ _ _ _ c.if-h-l.true
 
-pub returns-then-h-r : goal.returns-then-h-r
-returns-then-h-r c = right-refused _ _ _ _ c.if-h-l.false c.if-h-r.true
+pub returns-then-h-r-clause-added : goal.returns-then-h-r-clause-added
+returns-then-h-r-clause-added c = right-refused _ _ _ _ c.if-h-l.false c.if-h-r.true
 
-pub returns-then-lim-k : goal.returns-then-lim-k
-returns-then-lim-k c = lines-refused _ _ _ _ c.if-h-l.false c.if-h-r.false c.if-lim-k.true
+pub returns-then-lim-k-clause-added : goal.returns-then-lim-k-clause-added
+returns-then-lim-k-clause-added c = lines-refused _ _ _ _ c.if-h-l.false c.if-h-r.false c.if-lim-k.true
 
 pub grow-requires : goal.grow-requires
 grow-requires c = grow_given c.requires.room c.if-h-l.false c.if-h-r.false c.requires.given
 
-pub returns-in_err-g : goal.returns-in_err-g
-returns-in_err-g c =
+pub returns-in_err-g-clause-added : goal.returns-in_err-g-clause-added
+returns-in_err-g-clause-added c =
     let e = err_from_is_err_and c.from_residual.result c.from_residual.ensures.1 in
-    rw (e.1, e.2) (full_refused c.requires.room c.if-h-l.false c.if-h-r.false c.if-lim-k.false c.in_err-g.ensures _ _)
+    rw (e.1, e.2) (full_refused c.requires.room c.if-h-l.false c.if-h-r.false c.if-lim-k.false c.in_err-g.ensures.grown _ _)
 
 pub overflow_cast-result : goal.overflow_cast-result
 overflow_cast-result c =
-    omega (arith, count_fits c.requires.room c.if-h-l.false c.if-h-r.false c.if-lim-k.false c.in_ok-g.ensures c.requires.given)
+    omega (arith, count_fits c.requires.room c.if-h-l.false c.if-h-r.false c.if-lim-k.false c.in_ok-g.ensures.grown c.requires.given)
 
-pub returns : goal.returns
-returns c = line_added c.requires.room c.if-h-l.false c.if-h-r.false c.if-lim-k.false c.in_ok-g.ensures
+pub returns-clause-added : goal.returns-clause-added
+returns-clause-added c = line_added c.requires.room c.if-h-l.false c.if-h-r.false c.if-lim-k.false c.in_ok-g.ensures.grown

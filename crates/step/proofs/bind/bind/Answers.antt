@@ -5,19 +5,22 @@ use Rattle.std.proofs.lemmas.Result.{err_from_is_err_and}
 use Rattle.step.proofs.bind.Chosen.{refuses, t_fits, v_fits, to_rebuild, chosen}
 use Rattle.step.proofs.bind.bind.Goals as goal
 
-pub returns-in_err-early_refusal : goal.returns-in_err-early_refusal
-returns-in_err-early_refusal c =
+pub returns-in_err-early_refusal-clause-chosen : goal.returns-in_err-early_refusal-clause-chosen
+returns-in_err-early_refusal-clause-chosen c =
     let e = err_from_is_err_and c.from_residual.result c.from_residual.ensures.1 in
     rw (e.1, e.2) (λ lim lines a. refuses a _ _ _ c.in_err-early_refusal.ensures _)
 
 pub overflow_add-bindings : goal.overflow_add-bindings
 overflow_add-bindings c = omega (arith, t_fits c.requires.known _ _ c.in_ok-early_refusal.ensures)
 
-pub bounds-bindings-i : goal.bounds-bindings-i
-bounds-bindings-i c = v_fits c.requires.known _ _ c.in_ok-early_refusal.ensures
+pub bounds-bindings-v : goal.bounds-bindings-v
+bounds-bindings-v c = v_fits c.requires.known _ _ c.in_ok-early_refusal.ensures
 
-pub rebuild-requires : goal.rebuild-requires
-rebuild-requires c = to_rebuild c.requires.known _ _ c.in_ok-early_refusal.ensures c.early_refusal.auto.flags
+pub invariant_of-terms : goal.invariant_of-terms
+invariant_of-terms c = record { good = (to_rebuild c.requires.known _ _ c.in_ok-early_refusal.ensures c.early_refusal.auto.flags).good }
 
-pub returns : goal.returns
-returns c = λ lim lines a. chosen a _ _ c.in_ok-early_refusal.ensures c.rebuild.auto.entries c.rebuild.ensures
+pub rebuild-requires-clause-table : goal.rebuild-requires-clause-table
+rebuild-requires-clause-table c = to_rebuild c.requires.known _ _ c.in_ok-early_refusal.ensures c.early_refusal.auto.flags
+
+pub returns-clause-chosen : goal.returns-clause-chosen
+returns-clause-chosen c = λ lim lines a. chosen a _ _ c.in_ok-early_refusal.ensures c.rebuild.auto.entries c.rebuild.ensures.settled

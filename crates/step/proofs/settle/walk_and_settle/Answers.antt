@@ -4,17 +4,17 @@ use Rattle.std.proofs.lemmas.Result.{err_from_is_err_and}
 use Rattle.step.proofs.settle.Walked.{walked_full, ranges, walked_settled}
 use Rattle.step.proofs.settle.walk_and_settle.Goals as goal
 
-pub returns-in_err-w : goal.returns-in_err-w
-returns-in_err-w c =
+pub returns-in_err-w-clause-settled : goal.returns-in_err-w-clause-settled
+returns-in_err-w-clause-settled c =
     let e = err_from_is_err_and c.from_residual.result c.from_residual.ensures.1 in
-    rw (e.1, e.2) (walked_full c.args.h c.in_err-w.ensures)
+    rw (e.1, e.2) (walked_full c.args.h c.in_err-w.ensures.walked)
 
 -- the numbers of the answer lie in their ranges
 pub overflow_cast-result : goal.overflow_cast-result
-overflow_cast-result c = omega (arith, (ranges c.args.h c.in_ok-w.ensures c.requires).turned-old)
+overflow_cast-result c = let r = ranges c.args.h c.in_ok-w.ensures.walked c.requires in omega arith
 
 pub overflow_sub-result : goal.overflow_sub-result
-overflow_sub-result c = omega (arith, (ranges c.args.h c.in_ok-w.ensures c.requires).longer)
+overflow_sub-result c = omega (arith, (ranges c.args.h c.in_ok-w.ensures.walked c.requires).longer)
 
-pub returns : goal.returns
-returns c = walked_settled c.args.h c.in_ok-w.ensures c.settle.ensures
+pub returns-clause-settled : goal.returns-clause-settled
+returns-clause-settled c = walked_settled c.args.h c.in_ok-w.ensures.walked c.settle.ensures

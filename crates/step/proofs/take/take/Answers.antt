@@ -5,9 +5,9 @@ use Rattle.step.proofs.take.take.Goals as goal
 pub add_line-requires-clause-room : goal.add_line-requires-clause-room
 add_line-requires-clause-room c = ready-room c.requires.ready c.requires.lent
 
-pub returns-in-Add : goal.returns-in-Add
-returns-in-Add c = gives_line _ _ _ _ c.in-Add.is (c.add_line.ensures _ _ c.requires.ready)
+pub returns-in-Add-clause-gives : goal.returns-in-Add-clause-gives
+returns-in-Add-clause-gives c = gives_line _ _ _ _ c.in-Add.is (c.add_line.ensures.added _ _ c.requires.ready)
 
-pub returns-in-Bind : goal.returns-in-Bind
-returns-in-Bind c =
-    gives_choice _ _ _ _ c.in-Bind.is (c.bind.ensures _ _ (record { ready = c.requires.ready; lent = c.requires.lent }))
+pub returns-in-Bind-clause-gives : goal.returns-in-Bind-clause-gives
+returns-in-Bind-clause-gives c =
+    gives_choice _ _ _ _ c.in-Bind.is (c.bind.ensures.chosen _ _ (record { ready = c.requires.ready; lent = c.requires.lent }))

@@ -1,12 +1,12 @@
 -- `index::index` meets its contract: the sides of the entry are terms, and its names are indexed behind the others. Assumes nothing.
-use Rattle.std.proofs.Common.{arith, rules}
+use Rattle.std.proofs.Common.{refl, arith, rules}
 use Rattle.table.proofs.index.Indexing.{indexing_none, left_lt, right_lt, next-room, indexing_more, indexing_all}
-use Rattle.table.proofs.index.Standing.{index_sizes}
+use Rattle.table.proofs.visit.Sizes.{index_sizes}
 use Rattle.table.proofs.index.index.Goals as goal
 
 pub loop-i-init : goal.loop-i-init
 loop-i-init c =
-    let s = c.clear.ensures.same_slices in record { indexing = indexing_none c.clear.ensures.indexed (index_sizes s.lefts_long s.rights_long s.cells_long); same = s }
+    let s = c.clear.ensures.same_slices in record { indexing = indexing_none c.clear.ensures.indexed (index_sizes refl s); same = s }
 
 pub bounds-names-e : goal.bounds-names-e
 bounds-names-e c =
@@ -21,11 +21,10 @@ push-requires-clause-indexed c = (next-room c.loop-i.invariant.indexing c.requir
 
 pub loop-i-preserved : goal.loop-i-preserved
 loop-i-preserved c =
-    let s = c.push.ensures.same_slices in
     record {
       indexing =
           indexing_more c.loop-i.invariant.indexing c.loop-i-test.true _ c.entry_at-e.ensures c.push.ensures.pushed
-          (index_sizes s.lefts_long s.rights_long s.cells_long);
+          (index_sizes refl c.push.ensures.same_slices);
       same = search rules;
     }
 

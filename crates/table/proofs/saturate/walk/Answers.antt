@@ -2,6 +2,7 @@
 use Rattle.std.proofs.Common.{rules, ◌≡◌, ◌+◌, cond, ◌&&◌, ltb, arith, lt-ltb, le-ltb}
 use mathlib.Core.Bool.{and-false}
 use Rattle.std.proofs.lemmas.Result.{err_from_is_err_and}
+use Rattle.table.proofs.visit.Sizes.{index_sizes}
 use Rattle.table.proofs.saturate.Walking.{walking_none, walking_full, walking_more, walking_all}
 use Rattle.table.proofs.saturate.walk.Goals as goal
 use Rattle.table.proofs.saturate.walk.Goals.{then-v+then-i-m, else-v, else-v-via-then-v+else-i-m, else-v-via-else-v}
@@ -27,7 +28,7 @@ loop-i-preserved c =
     ] in
     record {
       walking = walking_more c.loop-i.invariant.walking c.loop-i-test.true c.in_ok-v.ensures.visited raised
-          (record { entries_size = c.visit.auto.entries; left_size = c.visit.ensures.same_slices.lefts_long; right_size = c.visit.ensures.same_slices.rights_long; cells_size = c.visit.ensures.same_slices.cells_long });
+          (index_sizes c.visit.auto.entries c.visit.ensures.same_slices);
       same = search rules;
     }
 

@@ -13,6 +13,7 @@ ghost use Rattle.archive.specs.list.Listed.{of_kind, parse_named, Inverse};
 use refusal::Refusal;
 
 // Lists the terms of one kind, the variables or the others, from place `start` on, in rising number, and gives the place behind them.
+// The place is a number, since the second kind is listed behind the first.
 fn append_kind(rows: &[u32], n: usize, variables: bool, listed: &mut [u32], start: usize) -> usize
     requires { (term_words * n ≤ length rows.now) × (n ≤ 4294967295) × (start + length (of_kind rows.now variables n) ≤ length listed.old) }
     ensures next { result ≡ start + length (of_kind rows.now variables n) }

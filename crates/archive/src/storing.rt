@@ -37,15 +37,14 @@ fn write_both(
     ensures { WritesBoth (emit_both (book_bytes (book_of rows.now (length listed.now))) (number_bytes listed.now) out.old list.old)
         (number result) (book_written result) (list_written result) out.new list.new }
 {
-    let n = listed.len();
     if out.len() < bytes {
         return Err(Refusal::TooShort);
     }
-    if list.len() < runs::run_length(listed, 0, n) {
+    if list.len() < runs::run_length(listed) {
         return Err(Refusal::TooShort);
     }
-    let count = book::encode::encode(rows, n, out);
-    let behind = runs::put_run(listed, 0, n, list, 0);
+    let count = book::encode::encode(rows, listed.len(), out);
+    let behind = runs::put_run(listed, list, 0);
     Ok(Written {
         book: count as u32,
         list: behind as u32,

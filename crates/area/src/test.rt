@@ -12,6 +12,7 @@ ghost use Rattle.area.specs.load.Ready.{Lent, ReadFrom};
 use crate::load::Held;
 use layout::limits::Limits;
 use pairs::Index;
+use values::term::Terms;
 
 // Whether an area of any length and any bytes is sound; then the slices hold the words of its state, those of the entries at the
 // front of theirs, the list of its terms, what each stands for and its name. The index is scratch.
@@ -54,6 +55,6 @@ pub fn sound(
         entries: table,
     };
     state.rows_ok()
-        && values::evaluate::name_terms(rows, bindings, n, list, roots, names, index)
+        && values::evaluate::name_terms(Terms { rows, bindings, n }, list, roots, names, index)
         && soundness::entries::table_ok(rows, roots, names, table, m, index)
 }

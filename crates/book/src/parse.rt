@@ -1,6 +1,6 @@
 // A number, and the parts of a term in document 01's order: symbol (4), count (4), arguments (5). Each is read at a position of a book's
 // bytes, and gives the position behind it, or a refusal (specs/parse/Parts.antt). The parts are the work of the reader of
-// module reader.
+// module reader. Positions are numbers beside the bytes, since the clauses and the place of a refusal (module unread) speak of them.
 
 ghost use Rattle.std.specs.Prelude.{◌≡◌, ◌+◌, ◌*◌, ◌≤◌, length, drop, MatchResult};
 ghost use Rattle.model.specs.Limits.{max_arity};

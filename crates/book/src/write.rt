@@ -8,18 +8,18 @@ ghost use Rattle.layout.specs.limits.Rows.{node_of};
 ghost use Rattle.runs.specs.Runs.{small_words, over_at};
 ghost use Rattle.book.specs.encode.Encoding.{RowFits, term_bytes};
 
-// How many of the words of row `t` are numbers of the term: 1 for a variable, else the symbol, the count and the arguments.
-fn numbers_of(rows: &[u32], t: usize) -> usize
+// The words of row `t` that are numbers of the term: a variable's first, else the symbol, the count and the arguments.
+fn numbers_of(rows: &[u32], t: usize) -> &[u32]
     requires { RowFits rows.now t }
-    ensures few { result ≤ term_words }
-    ensures numbers { node_numbers (node_of rows.now t) ≡ take result (drop (term_words * t) rows.now) }
+    ensures few { length result.now ≤ term_words }
+    ensures part { result.now ≡ take (length result.now) (drop (term_words * t) rows.now) }
+    ensures numbers { result.now ≡ node_numbers (node_of rows.now t) }
 {
-    let start = layout::limits::TERM_WORDS * t;
-    if rows[start] == 0 {
-        return 1;
+    let row = &rows[layout::limits::TERM_WORDS * t..];
+    if row[0] == 0 {
+        return &row[..1];
     }
-    let second = start + 1;
-    2 + rows[second] as usize
+    &row[..2 + row[1] as usize]
 }
 
 // How many bytes the term in row `t` takes.
@@ -28,8 +28,8 @@ pub fn term_length(rows: &[u32], t: usize) -> usize
     ensures few { result ≤ max_groups * term_words }
     ensures count { result ≡ length (term_bytes rows.now t) }
 {
-    let count = numbers_of(rows, t);
-    runs::run_length(rows, layout::limits::TERM_WORDS * t, count)
+    let numbers = numbers_of(rows, t);
+    runs::run_length(numbers)
 }
 
 // Writes the term in row `t` at place `at` of `out`, and gives the place behind it.
@@ -38,6 +38,6 @@ pub fn put_term(rows: &[u32], t: usize, out: &mut [u8], at: usize) -> usize
     ensures next { result ≡ at + length (term_bytes rows.now t) }
     ensures bytes { out.new ≡ over_at out.old at (term_bytes rows.now t) }
 {
-    let count = numbers_of(rows, t);
-    runs::put_run(rows, layout::limits::TERM_WORDS * t, count, out, at)
+    let numbers = numbers_of(rows, t);
+    runs::put_run(numbers, out, at)
 }

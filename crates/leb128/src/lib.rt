@@ -92,7 +92,8 @@ pub fn length_of(n: u32) -> usize
 }
 
 // Writes `n` to the front of `out` and gives the number of bytes written. Where `n` is above the limit or `out` is too
-// short it writes nothing and gives 0. Groups are taken with a shift and a mask; each byte but the last has 80 (hexadecimal) set.
+// short it writes nothing and gives 0, a count as any other: no Option, since the clause `count` speaks of it. Groups are taken with a
+// shift and a mask; each byte but the last has 80 (hexadecimal) set.
 pub fn write(out: &mut [u8], n: u32) -> usize
     ensures count { result ≡ length (write_within max_groups max_number (length out.old) n) }
     ensures bytes { out.new ≡ write_within max_groups max_number (length out.old) n ++ drop result out.old }

@@ -12,7 +12,8 @@ ghost use Rattle.pairs.specs.Lent.{SameSlices, RoomIn, IndexedIn, PushedIn};
 // The number of buckets.
 pub const BUCKETS: usize = 4096;
 
-// The slices of an index. How many pairs they hold is said at each call: to a table's entries it is their number.
+// The slices of an index. How many pairs they hold is said at each call: of a table it is the number of its entries, which callers have.
+// No ghost field says that they are indexed: until `clear` they are scratch, which may hold anything.
 #[derive(Drop)]
 pub struct Index<'a> {
     pub lefts: &'a mut [u32],
@@ -89,16 +90,8 @@ fn search(lefts: &[u32], rights: &[u32], cells: &[u32], count: usize, a: u32, b:
     Found { place, cell }
 }
 
-// The first place of (a, b) among the first `count` pairs, or else `count`.
-pub fn find(lefts: &[u32], rights: &[u32], cells: &[u32], count: usize, a: u32, b: u32) -> usize
-    requires { Indexed lefts.now rights.now cells.now count }
-    ensures { result ≡ place_of lefts.now rights.now count a b }
-{
-    search(lefts, rights, cells, count, a, b).place
-}
-
-// Puts (a, b) at place `count`, and answers its first place: an older one, or else `count`, to which a link goes then.
-pub fn push(
+// The same on the slices.
+fn push(
     lefts: &mut [u32],
     rights: &mut [u32],
     cells: &mut [u32],

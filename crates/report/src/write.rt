@@ -99,8 +99,7 @@ impl<'a> Source<'a> {
         ensures { (s : State) → Shows s self.entry → result ≡ length (number_bytes (row_numbers s n)) }
     {
         let numbers = self.entry_numbers(n);
-        let words = numbers.words();
-        runs::run_length(words, 0, words.len())
+        runs::run_length(numbers.words())
     }
 
     // Writes the entry with number `n` to the front of `out`, which is long enough, and gives the number of bytes.
@@ -111,15 +110,14 @@ impl<'a> Source<'a> {
             → (result ≡ length (number_bytes (row_numbers s n))) × (out.new ≡ number_bytes (row_numbers s n) ++ drop result out.old) }
     {
         let numbers = self.entry_numbers(n);
-        let words = numbers.words();
-        runs::put_run(words, 0, words.len(), out, 0)
+        runs::put_run(numbers.words(), out, 0)
     }
 
     // How many bytes the report takes.
     fn length(self) -> usize
         ensures { (s : State) → Shows s self.entry → result ≡ length (report_bytes s) }
     {
-        let mut sum = runs::run_length(self.head, 0, self.head.len());
+        let mut sum = runs::run_length(self.head);
         for n in 0..self.met.len() {
             sum += self.entry_length(n);
         }
@@ -133,7 +131,7 @@ impl<'a> Source<'a> {
         ensures { (s : State) → Shows s self.entry
             → (result ≡ length (report_bytes s)) × (out.new ≡ report_bytes s ++ drop result out.old) }
     {
-        let mut at = runs::put_run(self.head, 0, self.head.len(), out, 0);
+        let mut at = runs::put_run(self.head, out, 0);
         for n in 0..self.met.len() {
             at += self.write_entry(n, &mut out[at..]);
         }

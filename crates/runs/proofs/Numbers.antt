@@ -1,11 +1,11 @@
--- Numbers as bytes, and runs of words as bytes: one number more, and bounds on the length. Assumes nothing.
-use Rattle.std.proofs.Common.{◌≡◌, refl, List, [], ◌∷◌, ◌++◌, append-nil, ℕ, ◌+◌, ◌*◌, ◌-◌, ◌≤◌, ◌<◌, zero-le, min, add-one, arith, length, get_or, take, drop, length-append, length-drop, length-take, take-suc, take-add, length-take-le, get_or-take, get_or-drop, leb, leb→le}
+-- Numbers as bytes: one number more, and bounds on the length. Assumes nothing.
+use Rattle.std.proofs.Common.{◌≡◌, refl, ap, List, [], ◌∷◌, ◌++◌, append-nil, ℕ, ◌+◌, ◌*◌, ◌-◌, ◌≤◌, ◌<◌, zero-le, min, add-one, arith, length, get_or, take, drop, length-append, length-drop, length-take, take-append-drop, take-suc, get_or-take, get_or-drop, leb, leb→le}
 use Rattle.leb128.specs.Number.{max_groups, max_number, write}
 use Rattle.leb128.proofs.Laws.{writes_bytes}
 use Rattle.model.specs.Lists.{concat_map}
 use Rattle.model.specs.Report.{number_bytes}
 use Rattle.theory.proofs.Lists.Laws.{concat_map-append, all-at, all_intro}
-use Rattle.runs.specs.Runs.{small_words, run_bytes}
+use Rattle.runs.specs.Runs.{small_words}
 
 -- the bytes of numbers put together
 pub numbers-append : (ms ns : List ℕ) → number_bytes (ms ++ ns) ≡ number_bytes ms ++ number_bytes ns
@@ -32,16 +32,12 @@ unfolding number_bytes concat_map
 length-numbers [] = zero-le
 length-numbers (n ∷ ns) = rw length-append (omega (arith, length-write n, length-numbers ns))
 
--- a word of a run of small words is within the limit
-pub small-run : (rows : List ℕ) (start n i : ℕ) → small_words (take n (drop start rows)) → start + n ≤ length rows → i < n
-    → get_or rows (start + i) 0 ≤ max_number
+-- a word of small words is within the limit
+pub small-word : (words : List ℕ) (i : ℕ) → small_words words → i < length words → get_or words i 0 ≤ max_number
 unfolding small_words
-small-run rows start n i h fits l =
-    let long : length (take n (drop start rows)) ≡ n = length-take-le n (drop start rows) (rw length-drop (omega arith)) in
-    rw (get_or-take n (drop start rows) i 0 l, get_or-drop) at
-    (leb→le (get_or (take n (drop start rows)) i 0) max_number (all-at (λ w. leb w max_number) (take n (drop start rows)) 0 h i (rw long l)))
+small-word words i h l = leb→le (get_or words i 0) max_number (all-at (λ w. leb w max_number) words 0 h i l)
 
--- a part of small words is a run of them
+-- a part of small words is small words
 pub small_part : (rows : List ℕ) (start n : ℕ) → small_words rows → small_words (take n (drop start rows))
 unfolding small_words
 small_part rows start n h =
@@ -49,30 +45,25 @@ small_part rows start n h =
     let few : i < min n (length rows - start) = rw (length-take, length-drop) at l in
     rw (get_or-take n (drop start rows) i 0 (omega arith), get_or-drop) (all-at (λ w. leb w max_number) rows 0 h (start + i) (omega arith)))
 
-module _ (rows : List ℕ) (start : ℕ) where
-  -- no words
-  pub run_none : run_bytes rows start 0 ≡ []
-  unfolding run_bytes number_bytes concat_map
-  run_none = refl
+-- no words have no bytes
+pub numbers-none : number_bytes [] ≡ []
+unfolding number_bytes concat_map
+numbers-none = refl
 
+module _ (words : List ℕ) (i : ℕ) where
   -- one word more
-  pub run_more : (i : ℕ) → start + i < length rows → run_bytes rows start (i + 1) ≡ run_bytes rows start i ++ write max_groups (get_or rows (start + i) 0)
-  unfolding run_bytes
-  run_more i l =
-      let within : i < length (drop start rows) = rw length-drop (omega arith) in
-      rw (add-one, take-suc (drop start rows) i 0 within, numbers-append, numbers-one, get_or-drop)
+  pub numbers-more : i < length words → number_bytes (take (i + 1) words) ≡ number_bytes (take i words) ++ write max_groups (get_or words i 0)
+  numbers-more l = rw (add-one, take-suc words i 0 l, numbers-append, numbers-one)
 
-  pub length-run-more : (i : ℕ) → start + i < length rows
-      → length (run_bytes rows start (i + 1)) ≡ length (run_bytes rows start i) + length (write max_groups (get_or rows (start + i) 0))
-  length-run-more i l = rw (run_more i l, length-append)
+  pub length-numbers-more : i < length words
+      → length (number_bytes (take (i + 1) words)) ≡ length (number_bytes (take i words)) + length (write max_groups (get_or words i 0))
+  length-numbers-more l = rw (numbers-more l, length-append)
 
-  -- a run of n words takes at most 3 * n bytes, and no fewer than a shorter run
-  pub run-bound : (n : ℕ) → length (run_bytes rows start n) ≤ max_groups * n
-  unfolding run_bytes
-  run-bound n = omega (arith, length-numbers (take n (drop start rows)), length-take n (drop start rows))
+  -- the first i words take at most 3 * i bytes, and no more than all
+  pub length-part : length (number_bytes (take i words)) ≤ max_groups * i
+  length-part = omega (arith, length-numbers (take i words), length-take i words)
 
-  pub run-grows : (i n : ℕ) → i ≤ n → length (run_bytes rows start i) ≤ length (run_bytes rows start n)
-  unfolding run_bytes
-  run-grows i n h =
-      let e : n ≡ i + (n - i) = omega arith in
-      rw (e, take-add i (n - i) (drop start rows), numbers-append, length-append) (omega arith)
+  pub numbers-grow : length (number_bytes (take i words)) ≤ length (number_bytes words)
+  numbers-grow =
+      let whole = ap (λ ns. length (number_bytes ns)) (take-append-drop i words) in
+      omega (arith, rw (numbers-append, length-append) at whole)

@@ -94,12 +94,6 @@ module _ (out : List ℕ) (at : ℕ) where
       let none : drop (length out - at) (drop at out) ≡ [] = drop_of_length-le (drop at out) {i = length out - at} (rw length-drop (omega arith)) in
       (ap (λ (k : ℕ). at + k) e, rw (none, append-nil, f, tail_all, drop-drop, e))
 
-  -- where the part comes back as long as it was, so does the whole
-  pub tail_kept : at ≤ length out → (last : List ℕ) → length last ≡ length tail
-      → length (take at out ++ (last ++ drop (length out - at) (drop at out))) ≡ length out
-  tail_kept h last e =
-      rw (length-append, length-take-le at out h, length-append, e, tail_length, length-drop (length out - at) (drop at out), length-drop) (omega arith)
-
 -- so it is for a number, where there is room for it
 pub number-laid : (out : List ℕ) (at n : ℕ) → n ≤ max_number → at + length (write max_groups n) ≤ length out
     → (r : ℕ) (last : List ℕ) → r ≡ length (write_within max_groups max_number (length (tail out at)) n)

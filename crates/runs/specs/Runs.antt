@@ -1,16 +1,11 @@
--- Runs of words as bytes, and bytes laid over a slice. Assumes nothing: these are definitions.
+-- Words that are numbers, and bytes laid over a slice. Assumes nothing: these are definitions.
 use Rattle.std.specs.Prelude.{List, ◌++◌, ℕ, ◌+◌, length, take, drop, T, leb}
 use Rattle.leb128.specs.Number.{max_number}
 use Rattle.model.specs.Lists.{all}
-use Rattle.model.specs.Report.{number_bytes}
 
 -- No word is above the limit of a number.
 unfoldable pub small_words : List ℕ → Type 0
 small_words words = T (all (λ w. leb w max_number) words)
-
--- The bytes of n words from word `start` on, each as a number.
-unfoldable pub run_bytes : List ℕ → ℕ → ℕ → List ℕ
-run_bytes words start n = number_bytes (take n (drop start words))
 
 -- The list with the bytes from place `at` on, and everything else as it was.
 unfoldable pub over_at : List ℕ → ℕ → List ℕ → List ℕ

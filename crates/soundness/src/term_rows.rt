@@ -37,7 +37,8 @@ pub fn term_rows_ok(rows: &[u32], n: usize) -> bool
     (0..n).all(|t| term_row_ok(rows, t)) && zero_from(rows, TERM_WORDS * n)
 }
 
-// Whether term `t` is not bound, or is a variable that is bound to one of `n` terms.
+// Whether term `t` is not bound, or is a variable that is bound to one of `n` terms. Not yet `values::term::Terms`, whose ghost field is what
+// this test is for.
 fn binding_ok(rows: &[u32], bindings: &[u32], n: usize, t: usize) -> bool
     requires { (term_words * t + term_words ≤ length rows.now) × (t < length bindings.now) }
     ensures { result ≡ binding_ok (book_of rows.now n) (node_of rows.now t) (binding_of bindings.now t) }

@@ -9,24 +9,23 @@ use layout::header::Header;
 use layout::limits::Limits;
 use pairs::Index;
 use refusal::Refusal;
+use table::visit::NamedTerms;
 
 // Adds the line of the terms `l` and `r`: 8 where one is no term, 12 where there is no room for a line, 11 where there is none for
 // its entries. The answer is the line's entry.
 pub fn add_line(
     lim: Limits,
     h: Header,
-    rows: &[u32],
-    roots: &[u32],
-    names: &[u32],
+    terms: NamedTerms,
     lines: &mut [u32],
     entries: &mut [u32],
     l: u32,
     r: u32,
     index: &mut Index,
 ) -> Result<Stepped, Refusal>
-    requires given { GivenBindings (limits_of lim) h rows.now roots.now names.now lines.old entries.old }
+    requires given { GivenBindings (limits_of lim) h terms.rows.now terms.roots.now terms.names.now lines.old entries.old }
     requires room { RoomIn index.old h.capacity }
-    ensures added { AddsLine (limits_of lim) h rows.now roots.now names.now lines.old entries.old l r
+    ensures added { AddsLine (limits_of lim) h terms.entry.rows.now terms.entry.roots.now terms.entry.names.now lines.old entries.old l r
         result lines.new entries.new }
     ensures same_slices { SameSlices index.old index.new }
 {
@@ -42,7 +41,7 @@ pub fn add_line(
     }
     let capacity = h.capacity as usize;
     let m = h.entries as usize;
-    let g = crate::grow::grow(rows, roots, names, entries, capacity, m, l, r, index)?;
+    let g = crate::grow::grow(terms, entries, capacity, m, l, r, index)?;
     lines[k] = g.entry;
     Ok(Stepped {
         accepted: Accepted::Added { entry: g.entry },

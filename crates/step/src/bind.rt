@@ -5,10 +5,11 @@ ghost use Rattle.model.specs.Limits.{Limits};
 ghost use Rattle.model.specs.Step as Step;
 ghost use Rattle.model.specs.Step.{is_free};
 ghost use Rattle.model.specs.Area.{term_words};
-ghost use Rattle.layout.specs.limits.Rows.{node_of, book_of, binding_of, bound_of, loaded_state};
+ghost use Rattle.layout.specs.limits.Rows.{node_of, binding_of, loaded_state};
 ghost use Rattle.layout.specs.header.Held.{held};
 ghost use Rattle.pairs.specs.Lent.{SameSlices};
 ghost use Rattle.values.specs.roots.Reading.{Listed};
+ghost use Rattle.values.specs.term.Terms.{book, bound};
 ghost use Rattle.step.specs.declared.answer.Step.TheVariants.{Bind};
 ghost use Rattle.refusal.specs.Numbers.{number};
 ghost use Rattle.step.specs.answer.Stepped.{answer_of, header_after, Gives};
@@ -18,39 +19,41 @@ use crate::answer::Stepped;
 use layout::header::Header;
 use pairs::Index;
 use refusal::Refusal;
+use values::term::Terms;
 
 // Whether the term `v` is a free variable.
-fn is_free(rows: &[u32], bindings: &[u32], v: u32) -> bool
-    requires { (term_words * v + 1 ≤ length rows.now) × (v < length bindings.now) }
-    ensures { result ≡ is_free (node_of rows.now v) (binding_of bindings.now v) }
+#[tactic(auto, unfolding(model::specs::Step::is_free))]
+fn is_free(terms: Terms, v: u32) -> bool
+    requires { v < terms.n }
+    ensures { result ≡ is_free (node_of terms.entry.rows.now v) (binding_of terms.entry.bindings.now v) }
 {
-    let i = v as usize;
-    rows[layout::limits::TERM_WORDS * i] == 0 && bindings[i] == 0
+    match (terms.arguments(v), terms.bound(v)) {
+        (None, None) => true,
+        _ => false,
+    }
 }
 
 // The tests of the choice (`v`, `t`) before the walk: 8, 9 or 10 where one refuses it. `flags` is scratch.
 fn early_refusal(
-    rows: &[u32],
-    bindings: &[u32],
-    n: u32,
+    terms: Terms,
     flags: &mut [u32],
     list: &[u32],
     v: u32,
     t: u32,
 ) -> Result<(), Refusal>
-    requires { Listed rows.now bindings.now list.now n × (n ≤ length flags.old) }
-    ensures { number result ≡ early_refusal (book_of rows.now n) (bound_of bindings.now n) v t }
+    requires { Listed terms.rows.now terms.bindings.now list.now terms.n × (terms.n ≤ length flags.old) }
+    ensures { number result ≡ early_refusal (book terms.entry) (bound terms.entry) v t }
 {
-    if n <= v {
+    if terms.n <= v {
         return Err(Refusal::NamesNothing);
     }
-    if n <= t {
+    if terms.n <= t {
         return Err(Refusal::NamesNothing);
     }
-    if !is_free(rows, bindings, v) {
+    if !is_free(terms, v) {
         return Err(Refusal::NotFree);
     }
-    if values::roots::occurs_in(rows, bindings, n, flags, list, v, t) {
+    if values::roots::occurs_in(terms, flags, list, v, t) {
         return Err(Refusal::Occurs);
     }
     Ok(())
@@ -77,8 +80,9 @@ pub fn bind(
         (answer_of result) (held (header_after h result) rows.now bindings.new lines entries.new) }
     ensures same_slices { SameSlices index.old index.new }
 {
-    early_refusal(rows, bindings, h.terms, index.cells, list, v, t)?;
-    let i = v as usize;
-    bindings[i] = t + 1;
-    crate::rebuild::rebuild(h, rows, bindings, list, roots, names, entries, index)
+    let n = h.terms;
+    early_refusal(Terms { rows, bindings, n }, index.cells, list, v, t)?;
+    bindings[v as usize] = t + 1;
+    let terms = Terms { rows, bindings, n };
+    crate::rebuild::rebuild(h, terms, list, roots, names, entries, index)
 }

@@ -2,31 +2,30 @@
 
 ghost use Rattle.pairs.specs.Lent.{SameSlices};
 ghost use Rattle.table.specs.place.Stands.{GivenTable, Whatever};
-ghost use Rattle.table.specs.saturate.Walking.{ToWalk};
+ghost use Rattle.table.specs.saturate.Walking.{ToWalkIn};
 ghost use Rattle.step.specs.settle.Settled.{IsSettled};
 
 use crate::answer::{Accepted, Stepped};
 use layout::header::Header;
 use pairs::Index;
 use refusal::Refusal;
+use table::visit::NamedTerms;
 
 // Walks through an indexed table and sets same-as: 11, or how many entries turned and how many were appended.
 pub fn walk_and_settle(
     h: Header,
-    rows: &[u32],
-    roots: &[u32],
-    names: &[u32],
+    terms: NamedTerms,
     entries: &mut [u32],
     index: &mut Index,
 ) -> Result<Stepped, Refusal>
-    requires { GivenTable (ToWalk rows.now roots.now names.now entries.old index.old.lefts.now index.old.rights.now index.old.cells.now h.capacity h.entries) }
-    ensures settled { Whatever (ToWalk rows.now roots.now names.now entries.old index.old.lefts.now index.old.rights.now index.old.cells.now h.capacity h.entries)
+    requires { GivenTable (ToWalkIn terms entries.old index.old h.capacity h.entries) }
+    ensures settled { Whatever (ToWalkIn terms.entry entries.old index.old h.capacity h.entries)
         (IsSettled h entries.new result) }
     ensures same_slices { SameSlices index.old index.new }
 {
     let capacity = h.capacity as usize;
     let m = h.entries as usize;
-    let w = table::saturate::walk(rows, roots, names, entries, capacity, m, index)?;
+    let w = table::saturate::walk(terms, entries, capacity, m, index)?;
     let count = w.count;
     table::same_as::settle(entries, count, index);
     Ok(Stepped {

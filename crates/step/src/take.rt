@@ -18,8 +18,10 @@ use layout::header::Header;
 use layout::limits::Limits;
 use pairs::Index;
 use refusal::Refusal;
+use table::visit::NamedTerms;
 
-// Takes a step on a loaded state. The index is scratch.
+// Takes a step on a loaded state. The index is scratch. The slices are parameters here and in what this calls, for the reason said at
+// `area::test::sound`.
 pub fn take(
     lim: Limits,
     h: Header,
@@ -41,7 +43,8 @@ pub fn take(
 {
     match step {
         Step::Add(l, r) => {
-            crate::add_line::add_line(lim, h, rows, roots, names, lines, entries, l, r, index)
+            let terms = NamedTerms { rows, roots, names };
+            crate::add_line::add_line(lim, h, terms, lines, entries, l, r, index)
         }
         Step::Bind(v, t) => {
             crate::bind::bind(h, rows, bindings, list, roots, names, entries, v, t, index)

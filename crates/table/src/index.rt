@@ -3,15 +3,14 @@
 
 ghost use Rattle.pairs.specs.Lent.{SameSlices};
 ghost use Rattle.table.specs.place.Stands.{GivenTable, Whatever};
-ghost use Rattle.table.specs.index.Indexing.{ToIndex, IsIndexed};
+ghost use Rattle.table.specs.index.Indexing.{ToIndexIn, IsIndexedIn};
 
 use pairs::Index;
 
 // Builds the index of the table of `m` entries: their names are pushed in order.
 pub fn index(names: &[u32], entries: &[u32], m: usize, index: &mut Index)
-    requires { GivenTable (ToIndex names.now entries.now index.old.lefts.now index.old.rights.now index.old.cells.now m) }
-    ensures indexed { Whatever (ToIndex names.now entries.now index.old.lefts.now index.old.rights.now index.old.cells.now m)
-        (IsIndexed index.new.lefts.now index.new.rights.now index.new.cells.now m) }
+    requires { GivenTable (ToIndexIn names.now entries.now index.old m) }
+    ensures indexed { Whatever (ToIndexIn names.now entries.now index.old m) (IsIndexedIn index.new m) }
     ensures same_slices { SameSlices index.old index.new }
 {
     index.clear();

@@ -4,7 +4,7 @@
 
 ghost use Rattle.pairs.specs.Lent.{SameSlices};
 ghost use Rattle.table.specs.place.Stands.{GivenTable, Whatever};
-ghost use Rattle.table.specs.place.Placing.{ToPlace, IsPlaced};
+ghost use Rattle.table.specs.place.Placing.{ToPlaceIn, IsPlacedIn};
 
 use layout::entry::Entry;
 use layout::limits::MAX_ARITY;
@@ -29,9 +29,9 @@ pub fn place(
     r: u32,
     index: &mut Index,
 ) -> Result<Placed, Refusal>
-    requires { GivenTable (ToPlace names.now entries.old index.old.lefts.now index.old.rights.now index.old.cells.now capacity m l r) }
-    ensures placed { Whatever (ToPlace names.now entries.old index.old.lefts.now index.old.rights.now index.old.cells.now capacity m l r)
-        (IsPlaced entries.new index.new.lefts.now index.new.rights.now index.new.cells.now capacity l r result) }
+    requires { GivenTable (ToPlaceIn names.now entries.old index.old capacity m l r) }
+    ensures placed { Whatever (ToPlaceIn names.now entries.old index.old capacity m l r)
+        (IsPlacedIn entries.new index.new capacity l r result) }
     ensures same_slices { SameSlices index.old index.new }
 {
     let left = names[l as usize];

@@ -3,14 +3,14 @@
 
 ghost use Rattle.model.specs.Table.{settle};
 ghost use Rattle.table.specs.place.Stands.{HoldsTable, GivenTable, Whatever};
-ghost use Rattle.table.specs.same_as.Settling.{ToSettle};
+ghost use Rattle.table.specs.same_as.Settling.{ToSettleIn};
 
 use pairs::Index;
 
 // Sets same-as of the `m` entries: of each, the first entry with its two names.
 pub fn settle(entries: &mut [u32], m: usize, index: &Index)
-    requires { GivenTable (ToSettle entries.old index.now.lefts.now index.now.rights.now index.now.cells.now m) }
-    ensures { Whatever (ToSettle entries.old index.now.lefts.now index.now.rights.now index.now.cells.now m)
+    requires { GivenTable (ToSettleIn entries.old index.now m) }
+    ensures { Whatever (ToSettleIn entries.old index.now m)
         (λ b β es. HoldsTable entries.new (settle b β es)) }
 {
     for i in 0..m {

@@ -3,8 +3,9 @@
 
 ghost use Rattle.pairs.specs.Lent.{SameSlices};
 ghost use Rattle.table.specs.place.Stands.{GivenTable, Whatever};
-ghost use Rattle.table.specs.saturate.Walking.{ToWalk, IsWalked};
+ghost use Rattle.table.specs.saturate.Walking.{ToWalkIn, IsWalkedIn};
 
+use crate::visit::NamedTerms;
 use pairs::Index;
 use refusal::Refusal;
 
@@ -17,17 +18,15 @@ pub struct Walked {
 
 // Visits the entries from the first on, appended ones included; 11 where that needs more entries than the capacity.
 pub fn walk(
-    rows: &[u32],
-    roots: &[u32],
-    names: &[u32],
+    terms: NamedTerms,
     entries: &mut [u32],
     capacity: usize,
     m: usize,
     index: &mut Index,
 ) -> Result<Walked, Refusal>
-    requires { GivenTable (ToWalk rows.now roots.now names.now entries.old index.old.lefts.now index.old.rights.now index.old.cells.now capacity m) }
-    ensures walked { Whatever (ToWalk rows.now roots.now names.now entries.old index.old.lefts.now index.old.rights.now index.old.cells.now capacity m)
-        (IsWalked entries.new index.new.lefts.now index.new.rights.now index.new.cells.now capacity result) }
+    requires { GivenTable (ToWalkIn terms entries.old index.old capacity m) }
+    ensures walked { Whatever (ToWalkIn terms.entry entries.old index.old capacity m)
+        (IsWalkedIn entries.new index.new capacity result) }
     ensures same_slices { SameSlices index.old index.new }
 {
     let mut w = Walked {
@@ -37,7 +36,7 @@ pub fn walk(
     let mut i = 0;
     // a `while`: the bound grows where a visit appends entries
     while i < w.count {
-        let v = crate::visit::visit(rows, roots, names, entries, capacity, w.count, i, index)?;
+        let v = crate::visit::visit(terms, entries, capacity, w.count, i, index)?;
         if v.turned && i < m {
             w.turned += 1;
         }

@@ -6,12 +6,20 @@ ghost use Rattle.model.specs.Area.{term_words};
 ghost use Rattle.layout.specs.limits.Rows.{at};
 ghost use Rattle.pairs.specs.Lent.{SameSlices};
 ghost use Rattle.table.specs.place.Stands.{GivenTable, Whatever};
-ghost use Rattle.table.specs.visit.Visiting.{arguments_at, ToPlaceAll, ArePlaced, ToTurn, IsTurned, ToVisit, IsVisited};
+ghost use Rattle.table.specs.visit.Visiting.{ToPlaceAllIn, ArePlacedIn, ToTurn, IsTurned, ToVisitIn, IsVisitedIn};
 
 use layout::entry::Entry;
 use layout::limits::{MAX_ARITY, TERM_WORDS};
 use pairs::Index;
 use refusal::Refusal;
+
+// The terms of a book with bindings: their rows, the term that each stands for, and the name of its value.
+#[derive(Clone, Copy)]
+pub struct NamedTerms<'a> {
+    pub rows: &'a [u32],
+    pub roots: &'a [u32],
+    pub names: &'a [u32],
+}
 
 // The entries of the argument pairs of two terms, and the number of entries with them.
 #[derive(Clone, Copy)]
@@ -29,8 +37,7 @@ pub struct Visited {
 
 // Places the argument pairs of the terms in rows `l` and `r`, left to right; 11 where they need more entries than the capacity.
 fn place_all(
-    rows: &[u32],
-    names: &[u32],
+    terms: NamedTerms,
     entries: &mut [u32],
     capacity: usize,
     m: usize,
@@ -38,26 +45,26 @@ fn place_all(
     r: usize,
     index: &mut Index,
 ) -> Result<Arguments, Refusal>
-    requires given { GivenTable (ToPlaceAll names.now entries.old index.old.lefts.now index.old.rights.now index.old.cells.now capacity m (arguments_at rows.now l) (arguments_at rows.now r)) }
-    requires left { term_words * l + 2 + at rows.now (term_words * l + 1) ≤ length rows.now }
-    requires right { term_words * r + 2 + at rows.now (term_words * r + 1) ≤ length rows.now }
-    ensures placed { Whatever (ToPlaceAll names.now entries.old index.old.lefts.now index.old.rights.now index.old.cells.now capacity m (arguments_at rows.now l) (arguments_at rows.now r))
-        (ArePlaced entries.new index.new.lefts.now index.new.rights.now index.new.cells.now capacity (arguments_at rows.now l) (arguments_at rows.now r) result) }
+    requires given { GivenTable (ToPlaceAllIn terms entries.old index.old capacity m l r) }
+    requires left { term_words * l + 2 + at terms.rows.now (term_words * l + 1) ≤ length terms.rows.now }
+    requires right { term_words * r + 2 + at terms.rows.now (term_words * r + 1) ≤ length terms.rows.now }
+    ensures placed { Whatever (ToPlaceAllIn terms.entry entries.old index.old capacity m l r)
+        (ArePlacedIn terms.entry entries.new index.new capacity l r result) }
     ensures same_slices { SameSlices index.old index.new }
 {
     let first_left = TERM_WORDS * l + 2;
     let first_right = TERM_WORDS * r + 2;
-    let arity = rows[TERM_WORDS * l + 1] as usize;
+    let arity = terms.rows[TERM_WORDS * l + 1] as usize;
     let mut numbers = [0; MAX_ARITY];
     let mut count = m;
     for j in 0..arity {
         let p = crate::place::place(
-            names,
+            terms.names,
             entries,
             capacity,
             count,
-            rows[first_left + j],
-            rows[first_right + j],
+            terms.rows[first_left + j],
+            terms.rows[first_right + j],
             index,
         )?;
         numbers[j] = p.entry;
@@ -95,18 +102,16 @@ fn turn(rows: &[u32], entries: &mut [u32], i: usize, l: usize, e: Entry, args: A
 // Visits entry `i`: a hole whose sides stand for terms of one symbol and one count turns common; 11 where its argument pairs need
 // more entries than the capacity.
 pub fn visit(
-    rows: &[u32],
-    roots: &[u32],
-    names: &[u32],
+    terms: NamedTerms,
     entries: &mut [u32],
     capacity: usize,
     m: usize,
     i: usize,
     index: &mut Index,
 ) -> Result<Visited, Refusal>
-    requires { GivenTable (ToVisit rows.now roots.now names.now entries.old index.old.lefts.now index.old.rights.now index.old.cells.now capacity m i) }
-    ensures visited { Whatever (ToVisit rows.now roots.now names.now entries.old index.old.lefts.now index.old.rights.now index.old.cells.now capacity m i)
-        (IsVisited entries.new index.new.lefts.now index.new.rights.now index.new.cells.now capacity i result) }
+    requires { GivenTable (ToVisitIn terms entries.old index.old capacity m i) }
+    ensures visited { Whatever (ToVisitIn terms.entry entries.old index.old capacity m i)
+        (IsVisitedIn entries.new index.new capacity i result) }
     ensures same_slices { SameSlices index.old index.new }
 {
     let e = layout::entry::entry_at(entries, i);
@@ -118,14 +123,14 @@ pub fn visit(
     }
     let left = e.left as usize;
     let right = e.right as usize;
-    let l = roots[left] as usize;
-    let r = roots[right] as usize;
-    if !layout::limits::alike(rows, l, r) {
+    let l = terms.roots[left] as usize;
+    let r = terms.roots[right] as usize;
+    if !layout::limits::alike(terms.rows, l, r) {
         return Ok(Visited {
             turned: false,
             count: m,
         });
     }
-    let args = place_all(rows, names, entries, capacity, m, l, r, index)?;
-    Ok(turn(rows, entries, i, l, e, args))
+    let args = place_all(terms, entries, capacity, m, l, r, index)?;
+    Ok(turn(terms.rows, entries, i, l, e, args))
 }

@@ -3,32 +3,31 @@
 
 ghost use Rattle.std.specs.Prelude.{◌≡◌, true};
 ghost use Rattle.model.specs.Term.{acyclic};
-ghost use Rattle.layout.specs.limits.Rows.{book_of, bound_of, GoodTerms};
 ghost use Rattle.pairs.specs.Lent.{SameSlices};
+ghost use Rattle.values.specs.term.Terms.{book, bound};
 ghost use Rattle.values.specs.evaluate.Valued.{Valued, ValueRoom};
 
+use crate::term::Terms;
 use pairs::Index;
 
-// Whether no value contains itself; then lists the `n` terms, and finds what each stands for and its name. `roots` is scratch
-// until the names are found, and so is the index.
+// Whether no value contains itself; then lists the terms, and finds what each stands for and its name. `roots` is scratch
+// until the names are found, and `index` is scratch.
 pub fn name_terms(
-    rows: &[u32],
-    bindings: &[u32],
-    n: u32,
+    terms: Terms,
     list: &mut [u32],
     roots: &mut [u32],
     names: &mut [u32],
     index: &mut Index,
 ) -> bool
-    requires { GoodTerms rows.now bindings.now n × ValueRoom list.old roots.old names.old index.old.lefts.now index.old.rights.now index.old.cells.now n }
-    ensures acyclic { result ≡ acyclic (book_of rows.now n) (bound_of bindings.now n) }
-    ensures values { result ≡ true → Valued rows.now bindings.now list.new roots.new names.new n }
+    requires { ValueRoom list.old roots.old names.old index.old.lefts.now index.old.rights.now index.old.cells.now terms.n }
+    ensures acyclic { result ≡ acyclic (book terms.entry) (bound terms.entry) }
+    ensures values { result ≡ true → Valued terms.entry.rows.now terms.entry.bindings.now list.new roots.new names.new terms.entry.n }
     ensures same_slices { SameSlices index.old index.new }
 {
-    if !crate::order::order(rows, bindings, n, roots, list) {
+    if !crate::order::order(terms, roots, list) {
         return false;
     }
-    crate::names::names(rows, bindings, n, roots, list, names, index);
-    crate::roots::roots(rows, bindings, n, list, roots);
+    crate::names::names(terms, roots, list, names, index);
+    crate::roots::roots(terms, list, roots);
     true
 }

@@ -5,13 +5,14 @@
 ghost use Rattle.std.specs.Prelude.{◌≡◌, ◌++◌, map, ℕ, ◌<◌, ◌≤◌, length, drop};
 ghost use Rattle.model.specs.Lists.{from, eq_numbers};
 ghost use Rattle.model.specs.Term.{var, name};
-ghost use Rattle.layout.specs.limits.Rows.{at, node_of, book_of, bound_of};
+ghost use Rattle.layout.specs.limits.Rows.{at, node_of};
 ghost use Rattle.pairs.specs.Lent.{SameSlices};
+ghost use Rattle.values.specs.term.Terms.{book, bound};
 ghost use Rattle.values.specs.roots.Reading.{Listed};
-ghost use Rattle.values.specs.names.Keys.{mixed, hash_from, key_at, Row, Rows, Earlier};
+ghost use Rattle.values.specs.names.Keys.{mixed, hash_from, key_at, FirstTerms, Earlier};
 ghost use Rattle.values.specs.names.Classes.{Classable, class_of, Scratch, SameClasses, Seen, Nameable, lowest_same};
 
-use crate::term;
+use crate::term::Terms;
 use pairs::Index;
 
 // The hash `h` with `c` in it. `c` is in the factor too, so that what it changes depends on the numbers before it: a hash that is
@@ -39,12 +40,12 @@ fn application_hash(symbol: u32, args: &[u32], classes: &[u32]) -> u64
 }
 
 // The hash of the key of term `t`.
-fn key_hash(rows: &[u32], classes: &[u32], t: u32) -> u64
-    requires { Row rows.now (length classes.now) t }
-    ensures { result ≡ hash_from 0 (key_at rows.now classes.now t) }
+fn key_hash(terms: Terms, classes: &[u32], t: u32) -> u64
+    requires { (t < terms.n) × (terms.n ≤ length classes.now) }
+    ensures { result ≡ hash_from 0 (key_at terms.entry.rows.now classes.now t) }
 {
-    match term::arguments(rows, t) {
-        Some(args) => application_hash(term::symbol(rows, t), args, classes),
+    match terms.arguments(t) {
+        Some(args) => application_hash(terms.symbol(t), args, classes),
         None => 0,
     }
 }
@@ -67,14 +68,15 @@ fn same_classes(args: &[u32], others: &[u32], classes: &[u32]) -> bool
 }
 
 // Whether the application `t` and the term `u` have the same key.
-fn same_key(rows: &[u32], classes: &[u32], t: u32, u: u32) -> bool
-    requires rows { Row rows.now (length classes.now) t × Row rows.now (length classes.now) u }
-    requires application { node_of rows.now t ≡ var → ⊥ }
-    ensures { result ≡ eq_numbers (key_at rows.now classes.now t) (key_at rows.now classes.now u) }
+fn same_key(terms: Terms, classes: &[u32], t: u32, u: u32) -> bool
+    requires terms { (t < terms.n) × (u < terms.n) }
+    requires classes { terms.n ≤ length classes.now }
+    requires application { node_of terms.rows.now t ≡ var → ⊥ }
+    ensures { result ≡ eq_numbers (key_at terms.entry.rows.now classes.now t) (key_at terms.entry.rows.now classes.now u) }
 {
-    match (term::arguments(rows, t), term::arguments(rows, u)) {
+    match (terms.arguments(t), terms.arguments(u)) {
         (Some(args), Some(others)) => {
-            term::symbol(rows, t) == term::symbol(rows, u) && same_classes(args, others, classes)
+            terms.symbol(t) == terms.symbol(u) && same_classes(args, others, classes)
         }
         (Some(_), None) => false,
         (None, _) => false,
@@ -82,56 +84,50 @@ fn same_key(rows: &[u32], classes: &[u32], t: u32, u: u32) -> bool
 }
 
 // The place of a term with the key of the application `t` among the first `k` of the list.
-fn search_keys(rows: &[u32], classes: &[u32], list: &[u32], k: usize, t: u32) -> Option<usize>
-    requires rows { Rows rows.now (length classes.now) list.now k × Row rows.now (length classes.now) t }
-    requires application { node_of rows.now t ≡ var → ⊥ }
-    ensures { Earlier rows.now classes.now list.now k t result }
+fn search_keys(terms: Terms, classes: &[u32], list: &[u32], k: usize, t: u32) -> Option<usize>
+    requires terms { FirstTerms list.now terms.n k × (t < terms.n) }
+    requires classes { terms.n ≤ length classes.now }
+    requires application { node_of terms.rows.now t ≡ var → ⊥ }
+    ensures { Earlier terms.entry.rows.now classes.now list.now k t result }
 {
     list[..k]
         .iter()
-        .position(|&u| same_key(rows, classes, t, u))
+        .position(|&u| same_key(terms, classes, t, u))
 }
 
 // The same, where `place` is the only place to look at if the hash of no other key is that of `t`, or `k` if that of none is (what
 // `Index::push` answers).
 fn earlier(
-    rows: &[u32],
+    terms: Terms,
     classes: &[u32],
     list: &[u32],
     k: usize,
     t: u32,
     place: usize,
 ) -> Option<usize>
-    requires rows { Rows rows.now (length classes.now) list.now k × Row rows.now (length classes.now) t }
-    requires application { node_of rows.now t ≡ var → ⊥ }
-    requires place { (place ≤ k) × (place ≡ k → (j : ℕ) → j < k → key_at rows.now classes.now t ≡ key_at rows.now classes.now (at list.now j) → ⊥) }
-    ensures { Earlier rows.now classes.now list.now k t result }
+    requires terms { FirstTerms list.now terms.n k × (t < terms.n) }
+    requires classes { terms.n ≤ length classes.now }
+    requires application { node_of terms.rows.now t ≡ var → ⊥ }
+    requires place { (place ≤ k) × (place ≡ k → (j : ℕ) → j < k → key_at terms.rows.now classes.now t ≡ key_at terms.rows.now classes.now (at list.now j) → ⊥) }
+    ensures { Earlier terms.entry.rows.now classes.now list.now k t result }
 {
     if place == k {
         return None;
     }
-    if same_key(rows, classes, t, list[place]) {
+    if same_key(terms, classes, t, list[place]) {
         return Some(place);
     }
-    search_keys(rows, classes, list, k, t)
+    search_keys(terms, classes, list, k, t)
 }
 
 // The class of the term at place `k` of the list, where `classes` has the classes of the terms before it.
-fn class_of(
-    rows: &[u32],
-    bindings: &[u32],
-    n: u32,
-    classes: &[u32],
-    list: &[u32],
-    k: usize,
-    place: usize,
-) -> u32
-    requires { Classable rows.now bindings.now classes.now list.now n k place }
-    ensures { result ≡ class_of rows.now bindings.now list.now n (at list.now k) }
+fn class_of(terms: Terms, classes: &[u32], list: &[u32], k: usize, place: usize) -> u32
+    requires { Classable terms.rows.now terms.bindings.now classes.now list.now terms.n k place }
+    ensures { result ≡ class_of terms.entry.rows.now terms.entry.bindings.now list.now terms.entry.n (at list.now k) }
 {
     let t = list[k];
-    match (term::arguments(rows, t), term::bound(bindings, t)) {
-        (Some(_), _) => match earlier(rows, classes, list, k, t, place) {
+    match (terms.arguments(t), terms.bound(t)) {
+        (Some(_), _) => match earlier(terms, classes, list, k, t, place) {
             Some(j) => classes[list[j] as usize],
             None => t,
         },
@@ -140,27 +136,20 @@ fn class_of(
     }
 }
 
-// The class of each of the `n` terms, into `classes`. The other slices are scratch.
-fn classify(
-    rows: &[u32],
-    bindings: &[u32],
-    n: u32,
-    classes: &mut [u32],
-    list: &[u32],
-    index: &mut Index,
-)
-    requires scratch { Scratch classes.old index.old.lefts.now index.old.rights.now index.old.cells.now n }
-    requires listed { Listed rows.now bindings.now list.now n }
-    ensures classes { SameClasses (book_of rows.now n) (bound_of bindings.now n) classes.new n }
+// The class of each of the terms, into `classes`. The index is scratch.
+fn classify(terms: Terms, classes: &mut [u32], list: &[u32], index: &mut Index)
+    requires scratch { Scratch classes.old index.old.lefts.now index.old.rights.now index.old.cells.now terms.n }
+    requires listed { Listed terms.rows.now terms.bindings.now list.now terms.n }
+    ensures classes { SameClasses (book terms.entry) (bound terms.entry) classes.new terms.entry.n }
     ensures same_slices { SameSlices index.old index.new }
 {
     index.clear();
-    for (k, &t) in list[..n as usize].iter().enumerate() {
-        let h = key_hash(rows, classes, t);
+    for (k, &t) in list[..terms.n as usize].iter().enumerate() {
+        let h = key_hash(terms, classes, t);
         let high = (h / 4294967296) as u32;
         let low = (h % 4294967296) as u32;
         let place = index.push(k, high, low);
-        classes[t as usize] = class_of(rows, bindings, n, classes, list, k, place);
+        classes[t as usize] = class_of(terms, classes, list, k, place);
     }
 }
 
@@ -193,23 +182,14 @@ fn lowest_of_class(classes: &[u32], n: u32, names: &mut [u32], firsts: &mut [u32
     }
 }
 
-// The name of each of the `n` terms, the lowest term with its value, into `names`. The classes and the index are
-// scratch.
-pub fn names(
-    rows: &[u32],
-    bindings: &[u32],
-    n: u32,
-    classes: &mut [u32],
-    list: &[u32],
-    names: &mut [u32],
-    index: &mut Index,
-)
-    requires listed { Listed rows.now bindings.now list.now n }
-    requires scratch { Scratch classes.old index.old.lefts.now index.old.rights.now index.old.cells.now n }
-    requires names { n ≤ length names.old }
-    ensures names { names.new ≡ map (name (book_of rows.now n) (bound_of bindings.now n)) (from 0 n) ++ drop n names.old }
+// The name of each of the terms, the lowest term with its value, into `names`. `classes` and `index` are scratch.
+pub fn names(terms: Terms, classes: &mut [u32], list: &[u32], names: &mut [u32], index: &mut Index)
+    requires listed { Listed terms.rows.now terms.bindings.now list.now terms.n }
+    requires scratch { Scratch classes.old index.old.lefts.now index.old.rights.now index.old.cells.now terms.n }
+    requires names { terms.n ≤ length names.old }
+    ensures names { names.new ≡ map (name (book terms.entry) (bound terms.entry)) (from 0 terms.entry.n) ++ drop terms.entry.n names.old }
     ensures same_slices { SameSlices index.old index.new }
 {
-    classify(rows, bindings, n, classes, list, index);
-    lowest_of_class(classes, n, names, index.lefts);
+    classify(terms, classes, list, index);
+    lowest_of_class(classes, terms.n, names, index.lefts);
 }

@@ -1,6 +1,6 @@
 -- The terms of rows as numbers and bytes: a row's numbers are its first words, the first terms of a book are followed by
 -- the others, and what rows that can be encoded give. Assumes nothing.
-use Rattle.std.proofs.Common.{◌≡◌, refl, ap, List, [], ◌∷◌, ◌++◌, append-nil, map, ℕ, suc, ◌+◌, ◌*◌, ◌-◌, ◌≤◌, ◌<◌, zero-add, add-one, arith, eq-eqb, ne_eqb, length, get_or, take, drop, length-append, length-drop, drop-cons, length-take-le, T, leb, leb→le}
+use Rattle.std.proofs.Common.{◌≡◌, refl, List, [], ◌∷◌, ◌++◌, append-nil, map, ℕ, suc, ◌+◌, ◌*◌, ◌-◌, ◌≤◌, ◌<◌, zero-add, add-one, arith, eq-eqb, ne_eqb, length, get_or, take, drop, length-append, length-drop, drop-cons, length-take-le, T, leb, leb→le}
 use mathlib.Core.List.{map-append}
 use Rattle.std.proofs.Math.ListN.{length-map}
 use Rattle.leb128.specs.Number.{max_groups, max_number, write}
@@ -12,7 +12,7 @@ use Rattle.model.specs.BookBytes.{node_numbers, book_bytes}
 use Rattle.theory.proofs.Lists.Laws.{concat_map-append, all-at, length_from, get_or-from, from-append}
 use Rattle.theory.proofs.Lists.Conjunctions.{and₄}
 use Rattle.layout.specs.limits.Rows.{node_of, book_of}
-use Rattle.runs.specs.Runs.{small_words, run_bytes}
+use Rattle.runs.specs.Runs.{small_words}
 use Rattle.book.specs.encode.Encoding.{encodable, RowFits, term_bytes, terms_bytes}
 use Rattle.runs.proofs.Numbers.{numbers-append, numbers-first}
 
@@ -42,11 +42,6 @@ module _ (rows : List ℕ) (t : ℕ) (fits : RowFits rows t) where
       let symbol : suc (get_or rows i 0 - 1) ≡ get_or rows i 0 = omega arith in
       let count : length (take n (drop (i + 2) rows)) ≡ n = length-take-le n (drop (i + 2) rows) (rw length-drop (omega arith)) in
       rw (ne_eqb (get_or rows i 0) 0 e, two_first rows i n (omega arith), symbol, count)
-
-  -- a term's bytes are those of the words that are its numbers
-  pub term-run : (n : ℕ) → node_numbers (node_of rows t) ≡ take n (drop (term_words * t) rows) → term_bytes rows t ≡ run_bytes rows (term_words * t) n
-  unfolding term_bytes run_bytes
-  term-run n e = ap number_bytes e
 
 -- ---- the first terms of a book
 

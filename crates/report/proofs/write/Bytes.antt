@@ -10,22 +10,17 @@ use Rattle.theory.proofs.Lists.Laws.{concat_map-append, all_intro}
 use Rattle.theory.proofs.Lists.Rows.{Below, below-nil, below-cons, below-append}
 use Rattle.theory.proofs.Report.Numbering.{order_short}
 use Rattle.theory.proofs.Report.Small.{small-numbers, small_row, report_short, report_bytes_short}
-use Rattle.runs.specs.Runs.{small_words, run_bytes}
+use Rattle.runs.specs.Runs.{small_words}
 use Rattle.runs.proofs.Numbers.{numbers-append}
 use Rattle.runs.proofs.Over.{Laid, laid_front}
 use Rattle.report.specs.write.Shown.{classes, Tabled, head_numbers, row_numbers}
 use Rattle.report.proofs.write.Tables.{facts}
 use Rattle.report.proofs.write.Heads.{few-lines, few-classes}
 
--- a run of all words
-pub run_whole : (xs : List ℕ) → run_bytes xs 0 (length xs) ≡ number_bytes xs
-unfolding run_bytes
-run_whole xs = rw take-length
-
 -- some words, laid at the front of a slice
-pub run-laid : (words xs : List ℕ) → words ≡ xs → (out end : List ℕ) (r : ℕ) → Laid out 0 (run_bytes words 0 (length words)) end r
+pub run-laid : (words xs : List ℕ) → words ≡ xs → (out end : List ℕ) (r : ℕ) → Laid out 0 (number_bytes words) end r
     → (r ≡ length (number_bytes xs)) × (end ≡ number_bytes xs ++ drop r out)
-run-laid words xs e out end r laid = laid_front out (number_bytes xs) end r (rw (run_whole words, e) at laid)
+run-laid words xs e out end r laid = laid_front out (number_bytes xs) end r (rw e at laid)
 
 -- the numbers of the first n entries
 unfoldable pub rows_numbers : State → ℕ → List ℕ

@@ -1,17 +1,16 @@
 -- The length of the report, added up entry after entry. Assumes nothing.
 use Rattle.std.proofs.Common.{◌≡◌, ◌∙◌, List, ℕ, ◌+◌, ◌≤◌, ◌<◌, length, ap, arith, length-append}
 use Rattle.model.specs.Step.{State}
-use Rattle.model.specs.Report.{report_bytes}
-use Rattle.runs.specs.Runs.{run_bytes}
+use Rattle.model.specs.Report.{number_bytes, report_bytes}
 use Rattle.report.specs.write.Shown.{classes, head_numbers, Shown}
 use Rattle.report.proofs.write.Rows.{within}
-use Rattle.report.proofs.write.Bytes.{run_whole, head_bytes, row_bytes, rows_bytes, rows_none, length-rows-more, report-parts, rows_short, report-few}
+use Rattle.report.proofs.write.Bytes.{head_bytes, row_bytes, rows_bytes, rows_none, length-rows-more, report-parts, rows_short, report-few}
 
 -- at first, the sum is the length of the numbers before the entries
-pub sum-none : (s : State) (head : List ℕ) (sum : ℕ) → head ≡ head_numbers s → sum ≡ length (run_bytes head 0 (length head))
+pub sum-none : (s : State) (head : List ℕ) (sum : ℕ) → head ≡ head_numbers s → sum ≡ length (number_bytes head)
     → sum ≡ length (head_bytes s) + length (rows_bytes s 0)
 sum-none s head sum f e =
-    let first : sum ≡ length (head_bytes s) = e ∙ rw (run_whole head, f) in
+    let first : sum ≡ length (head_bytes s) = e ∙ rw f in
     rw (rows_none s) (omega arith)
 
 module _ {s : State} {names entries met numbers : List ℕ} (shown : Shown s names entries met numbers) (sum n : ℕ)

@@ -2,20 +2,19 @@
 -- nothing.
 use Rattle.std.proofs.Common.{◌≡◌, List, ◌++◌, ℕ, ◌+◌, ◌-◌, ◌≤◌, ◌<◌, length, take, drop, append-nil, append_assoc, length-append, arith}
 use Rattle.model.specs.Step.{State}
-use Rattle.model.specs.Report.{report_bytes}
-use Rattle.runs.specs.Runs.{run_bytes}
+use Rattle.model.specs.Report.{number_bytes, report_bytes}
 use Rattle.runs.proofs.Over.{Laid, laid_more, laid_front, tail, tail_length, tail_laid}
 use Rattle.report.specs.write.Shown.{classes, head_numbers}
-use Rattle.report.proofs.write.Bytes.{run_whole, head_bytes, row_bytes, rows_bytes, rows_none, rows_more, length-rows-more, report-parts, rows_short}
+use Rattle.report.proofs.write.Bytes.{head_bytes, row_bytes, rows_bytes, rows_none, rows_more, length-rows-more, report-parts, rows_short}
 
 -- what is written before entry n
 abbrev pub bytes_before : State → ℕ → List ℕ
 bytes_before s n = head_bytes s ++ rows_bytes s n
 
 -- at first, the numbers before the entries
-pub head_laid : (s : State) (head out₀ out : List ℕ) (at : ℕ) → head ≡ head_numbers s → Laid out₀ 0 (run_bytes head 0 (length head)) out at
+pub head_laid : (s : State) (head out₀ out : List ℕ) (at : ℕ) → head ≡ head_numbers s → Laid out₀ 0 (number_bytes head) out at
     → Laid out₀ 0 (bytes_before s 0) out at
-head_laid s head out₀ out at e laid = rw (rows_none s, append-nil, ← e, ← run_whole head) laid
+head_laid s head out₀ out at e laid = rw (rows_none s, append-nil, ← e) laid
 
 module _ (s : State) (out₀ out : List ℕ) (at n : ℕ) (room : length (report_bytes s) ≤ length out₀) (laid : Laid out₀ 0 (bytes_before s n) out at) where
   -- it fits

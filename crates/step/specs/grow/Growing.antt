@@ -9,6 +9,8 @@ use Rattle.refusal.specs.declared.Refusal.{Refusal}
 use Rattle.table.specs.place.Stands.{KnownTerms, Reaches, IsFull}
 use Rattle.table.specs.declared.place.Placed.{Placed}
 use Rattle.table.specs.index.Indexing.{ToIndex}
+use Rattle.pairs.specs.declared.Index.{Index}
+use Rattle.table.specs.declared.visit.NamedTerms.{NamedTerms}
 
 -- A pair of terms to be placed in a loaded table of m entries, which is then walked through; and that is done, or refused where that
 -- needs more entries than the capacity.
@@ -28,3 +30,10 @@ abbrev pub IsGrown : List ℕ → List ℕ → List ℕ → List ℕ → ℕ →
 IsGrown entries lefts rights cells capacity l r answer b β es =
     MatchResult answer (λ p. Grows entries lefts rights cells capacity l r p b β es)
     (λ e. IsFull capacity e (walk b β (suc capacity) 0 (place b β es l r)))
+
+-- The same, of what the structs lend.
+abbrev pub ToGrowIn : NamedTerms → List ℕ → Index → ℕ → ℕ → ℕ → ℕ → Book → Bindings → Table → Type 0
+ToGrowIn t entries x = ToGrow t.rows.now t.roots.now t.names.now entries x.lefts.now x.rights.now x.cells.now
+
+abbrev pub IsGrownIn : List ℕ → Index → ℕ → ℕ → ℕ → Result Placed Refusal → Book → Bindings → Table → Type 0
+IsGrownIn entries x = IsGrown entries x.lefts.now x.rights.now x.cells.now

@@ -6,6 +6,7 @@ use Rattle.pairs.specs.Index.{Indexed}
 use Rattle.pairs.specs.Index.{Room}
 use Rattle.soundness.specs.kinds.Sides.{SideNames}
 use Rattle.table.specs.place.Stands.{HoldsTable, KnownNames}
+use Rattle.pairs.specs.declared.Index.{Index}
 
 -- A table of m entries whose index is to be built, and built: the names of its sides are indexed.
 pub record ToIndex (names entries lefts rights cells : List ℕ) (m : ℕ) (b : Book) (β : Bindings) (es : Table) : Type 0 where
@@ -19,3 +20,10 @@ pub record ToIndex (names entries lefts rights cells : List ℕ) (m : ℕ) (b : 
 pub record IsIndexed (lefts rights cells : List ℕ) (m : ℕ) (b : Book) (β : Bindings) (es : Table) : Type 0 where
   pub indexed : Indexed lefts rights cells m
   pub names : SideNames b β es lefts rights
+
+-- The same, of what the index lends.
+abbrev pub ToIndexIn : List ℕ → List ℕ → Index → ℕ → Book → Bindings → Table → Type 0
+ToIndexIn names entries x = ToIndex names entries x.lefts.now x.rights.now x.cells.now
+
+abbrev pub IsIndexedIn : Index → ℕ → Book → Bindings → Table → Type 0
+IsIndexedIn x = IsIndexed x.lefts.now x.rights.now x.cells.now

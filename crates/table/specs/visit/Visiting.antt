@@ -15,6 +15,8 @@ use Rattle.refusal.specs.declared.Refusal.{Refusal}
 use Rattle.table.specs.place.Stands.{KnownNames, KnownTerms, Stands, Reaches, IsFull}
 use Rattle.table.specs.declared.visit.Arguments.{Arguments}
 use Rattle.table.specs.declared.visit.Visited.{Visited}
+use Rattle.pairs.specs.declared.Index.{Index}
+use Rattle.table.specs.declared.visit.NamedTerms.{NamedTerms}
 
 -- The arguments in the row of term t: the words behind its count.
 abbrev pub arguments_at : List ℕ → ℕ → List ℕ
@@ -73,3 +75,18 @@ pub record Visits (entries lefts rights cells : List ℕ) (capacity i : ℕ) (v 
 abbrev pub IsVisited : List ℕ → List ℕ → List ℕ → List ℕ → ℕ → ℕ → Result Visited Refusal → Book → Bindings → Table → Type 0
 IsVisited entries lefts rights cells capacity i answer b β es =
     MatchResult answer (λ v. Visits entries lefts rights cells capacity i v b β es) (λ e. IsFull capacity e (visit b β es i))
+
+-- The same, of what the structs lend; the argument pairs are those of the terms in rows l and r.
+abbrev pub ToPlaceAllIn : NamedTerms → List ℕ → Index → ℕ → ℕ → ℕ → ℕ → Book → Bindings → Table → Type 0
+ToPlaceAllIn t entries x capacity m l r =
+    ToPlaceAll t.names.now entries x.lefts.now x.rights.now x.cells.now capacity m (arguments_at t.rows.now l) (arguments_at t.rows.now r)
+
+abbrev pub ArePlacedIn : NamedTerms → List ℕ → Index → ℕ → ℕ → ℕ → Result Arguments Refusal → Book → Bindings → Table → Type 0
+ArePlacedIn t entries x capacity l r =
+    ArePlaced entries x.lefts.now x.rights.now x.cells.now capacity (arguments_at t.rows.now l) (arguments_at t.rows.now r)
+
+abbrev pub ToVisitIn : NamedTerms → List ℕ → Index → ℕ → ℕ → ℕ → Book → Bindings → Table → Type 0
+ToVisitIn t entries x = ToVisit t.rows.now t.roots.now t.names.now entries x.lefts.now x.rights.now x.cells.now
+
+abbrev pub IsVisitedIn : List ℕ → Index → ℕ → ℕ → Result Visited Refusal → Book → Bindings → Table → Type 0
+IsVisitedIn entries x = IsVisited entries x.lefts.now x.rights.now x.cells.now

@@ -3,7 +3,7 @@
 use Rattle.std.proofs.Common.{◌≡◌, refl, ap, ap₂, sym, ◌∙◌, List, [], ◌∷◌, map, ◌⊎◌, inl, inr, ℕ, suc, ◌≤◌, ◌<◌, zero-le, suc-le-suc, arith, length, get_or, take, get_or-take, length-take-le}
 use Rattle.std.proofs.Math.Option.{Option, none, some}
 use Rattle.model.specs.Lists.{first}
-use Rattle.model.specs.Term.{Node, var, app, arguments, Tree, free, node, Trees, more, trees, eq_tree, val}
+use Rattle.model.specs.Term.{Node, var, app, Tree, free, node, Trees, more, trees, eq_tree, val}
 use Rattle.theory.proofs.Soundness.Facts.{Formed, Acyclic}
 use Rattle.theory.proofs.Soundness.Terms.{acyclic_facts}
 use Rattle.theory.proofs.Lists.Laws.{first_holds, first-least}
@@ -12,10 +12,10 @@ use Rattle.theory.proofs.Values.Equations.{eq_tree-eq, eq_tree_refl, val-free, v
 use Rattle.layout.specs.limits.Rows.{at, node_of, book_of, binding_of, bound_of}
 use Rattle.layout.proofs.limits.Rows.{length-book_of, get_or-book_of, get_or-bound_of, good_formed}
 use Rattle.values.specs.order.Order.{parts_of, Before}
-use Rattle.values.specs.roots.Reading.{Listed, Readable}
-use Rattle.values.proofs.roots.Reading.{readable}
+use Rattle.values.specs.roots.Reading.{Listed}
+use Rattle.values.proofs.roots.Reading.{arguments_below}
 use Rattle.values.proofs.roots.Settled.{list-fits, term-lt, settled-parts}
-use Rattle.values.specs.names.Keys.{key_of, key_at, Row, Rows}
+use Rattle.values.specs.names.Keys.{key_of, key_at, FirstTerms}
 use Rattle.values.specs.names.Classes.{class_of, key_in, Classable}
 
 -- classes that agree on the arguments give the same key
@@ -88,11 +88,6 @@ module _ {rows bindings list : List ℕ} {n : ℕ} (listed : Listed rows binding
 
     value-app : (s : ℕ) (args : List ℕ) → node_of rows t ≡ app s args → Value rows bindings n t ≡ node s (trees (Value rows bindings n) args)
     value-app s args p = val-app (book_of rows n) (bound_of bindings n) formed ended t s args in_book (get_or-book_of rows n t l ∙ p)
-
-    -- the arguments of an application are terms
-    args_lt : (s : ℕ) (args : List ℕ) → node_of rows t ≡ app s args → (j : ℕ) → j < length args → get_or args j 0 < n
-    unfolding parts_of
-    args_lt s args p = rw p at (readable rows bindings n t n listed.good l (omega arith)).parts_below
 
   -- a class is by the value alone
   pub class_same : (t u : ℕ) → Value rows bindings n t ≡ Value rows bindings n u → class_of rows bindings list n t ≡ class_of rows bindings list n u
@@ -174,7 +169,7 @@ module _ {rows bindings list : List ℕ} {n : ℕ} (listed : Listed rows binding
       let same : s ≡ s' = omega arith in
       value-app t l s args p
       ∙ (ap₂ node same
-      (classes-trees (Value rows bindings n) (class_of rows bindings list n) n class_tells args args' (args_lt t l s args p) (args_lt u k s' args' q) (cc))
+      (classes-trees (Value rows bindings n) (class_of rows bindings list n) n class_tells args args' (arguments_below listed.good l p) (arguments_below listed.good k q) (cc))
       ∙ sym (value-app u k s' args' q))
 
   -- an application whose key no earlier term has is its own class
@@ -201,37 +196,22 @@ module _ {rows bindings list : List ℕ} {n : ℕ} (listed : Listed rows binding
       key_agree (at classes) (class_of rows bindings list n) (node_of rows (at list j)) (binding_of bindings (at list j))
       (settled-parts listed (λ t w. w ≡ class_of rows bindings list n t) classes j (λ i m. settled i (omega arith)) (omega arith))
 
--- rows that can be read
-pub row_of : {rows bindings list : List ℕ} {n : ℕ} → Listed rows bindings list n → (m t : ℕ) → t < n → n ≤ m → Row rows m t
-unfolding parts_of arguments
-row_of {rows} {bindings} {list} {n} listed m t l h =
-    let r : Readable rows bindings t m = readable rows bindings n t m listed.good l h in
-    record { row_fits = r.row_fits; arguments-below = args_of (node_of rows t) (binding_of bindings t) r.parts_below }
-  where
-    args_of : (x : Node) (o : Option ℕ) → ((j : ℕ) → j < length (parts_of x o) → get_or (parts_of x o) j 0 < m)
-        → (j : ℕ) → j < length (arguments x) → get_or (arguments x) j 0 < m
-    args_of var o h j q = absurd (omega arith)
-    args_of (app s args) o h j q = h j q
-
 -- the class of the term at place k
 module _ {rows bindings classes list : List ℕ} {n k place : ℕ} (a : Classable rows bindings classes list n k place) where
   pub t_lt : at list k < n
   t_lt = term-lt a.listed k a.within
 
-  pub t_readable : Readable rows bindings (at list k) (length classes)
-  t_readable = readable rows bindings n (at list k) (length classes) a.listed.good t_lt a.classes_fit
-
   keys : (j : ℕ) → j ≤ k → key_at rows classes (at list j) ≡ key_in rows bindings list n (at list j)
   keys = key_settled a.listed classes k a.within a.settled
 
   -- what the search for an earlier one asks
-  pub earlier_rows : Rows rows (length classes) list k × Row rows (length classes) (at list k)
-  earlier_rows = (
+  pub earlier_terms : FirstTerms list n k × (at list k < n)
+  earlier_terms = (
     record {
       list-fits = omega (arith, list-fits a.listed, a.within);
-      row = λ j q. row_of a.listed (length classes) (at list j) (term-lt a.listed j (omega (arith, a.within))) a.classes_fit;
+      term = λ j q. term-lt a.listed j (omega (arith, a.within));
     },
-    row_of a.listed (length classes) (at list k) t_lt a.classes_fit,
+    t_lt,
   )
 
   pub earlier_place : (place ≤ k) × (place ≡ k → (j : ℕ) → j < k → key_at rows classes (at list k) ≡ key_at rows classes (at list j) → ⊥)

@@ -8,10 +8,10 @@ use Rattle.pairs.specs.declared.Index.{Index}
 use Rattle.pairs.proofs.Laws.{Holds, place-le, place-least, kept_holds, kept_set, holds-set}
 use Rattle.pairs.proofs.Rooms.{room_kept, room_fewer}
 use Rattle.values.specs.roots.Reading.{Listed}
-use Rattle.values.proofs.roots.Settled.{Filled, filled_none, next-term, filled_more, filled_all}
-use Rattle.values.specs.names.Keys.{key_at, hash_from, Row}
+use Rattle.values.proofs.roots.Settled.{Filled, filled_none, filled_more, filled_all}
+use Rattle.values.specs.names.Keys.{key_at, hash_from}
 use Rattle.values.specs.names.Classes.{class_of, key_in, Classable, Scratch, SameClasses}
-use Rattle.values.proofs.names.ClassOf.{class_same, class_tells, class-lt, key_settled, row_of}
+use Rattle.values.proofs.names.ClassOf.{class_same, class_tells, class-lt, key_settled}
 
 -- the hash of the key of term t
 abbrev pub hash_in : List ℕ → List ℕ → List ℕ → ℕ → ℕ → ℕ
@@ -54,10 +54,7 @@ module _ {rows bindings list : List ℕ} {n : ℕ} {classes₀ : List ℕ} where
         class = filled_all c.filled l
 
     module _ (l : k < n) where
-      -- the next term's row can be read, and there is room for its pair
-      pub next_row : Row rows (length classes) (at list k)
-      next_row = row_of c.filled.listed (length classes) (at list k) (next-term c.filled l) (omega (arith, c.filled.size, c.filled.fits))
-
+      -- there is room for the next term's pair
       pub next-room : Room lefts rights cells (suc k)
       next-room = room_fewer l c.room
 

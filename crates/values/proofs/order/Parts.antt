@@ -13,7 +13,6 @@ use Rattle.layout.specs.limits.Rows.{at, node_of, book_of, binding_of, bound_of,
 use Rattle.layout.proofs.limits.Rows.{length-book_of, get_or-book_of, get_or-bound_of, binding_none, binding_some, good_formed}
 use Rattle.values.specs.order.Order.{parts_of, parts}
 use Rattle.values.specs.order.Marking.{parts_in}
-use Rattle.values.proofs.roots.Reading.{parts-lt}
 
 -- the element of a list that has one
 only : (a i : ℕ) → i < length (a ∷ []) → a ≡ get_or (a ∷ []) i 0
@@ -57,6 +56,15 @@ module _ {rows bindings : List ℕ} {n : ℕ} (good : GoodTerms rows bindings n)
         rw q (only (at bindings t - 1) i (rw q at k))
 
 -- ---- parts of a book
+
+-- parts are below m, where the arguments and the bound term are
+parts-lt : (m : ℕ) (x : Node) (o : Option ℕ) → ((i : ℕ) → i < length (arguments x) → get_or (arguments x) i 0 < m)
+    → ((u : ℕ) → o ≡ some u → u < m) → (j : ℕ) → j < length (parts_of x o) → get_or (parts_of x o) j 0 < m
+unfolding parts_of arguments
+parts-lt m var none below bound j l = absurd (not-suc-le-zero l)
+parts-lt m var (some u) below bound zero l = bound u refl
+parts-lt m var (some u) below bound (suc j) l = absurd (omega arith)
+parts-lt m (app s args) o below bound j l = below j l
 
 -- a book of n terms that obeys the rules of terms
 pub record Good (b : Book) (β : Bindings) (n : ℕ) : Type 0 where

@@ -7,8 +7,7 @@ use Rattle.theory.proofs.Lists.Rows.{map-from}
 use Rattle.layout.specs.limits.Rows.{at, node_of, binding_of}
 use Rattle.layout.proofs.limits.Rows.{length-book_of, get_or-book_of, get_or-bound_of}
 use Rattle.values.specs.order.Order.{parts_of, parts, Before}
-use Rattle.values.specs.roots.Reading.{Listed, Readable}
-use Rattle.values.proofs.roots.Reading.{readable}
+use Rattle.values.specs.roots.Reading.{Listed}
 
 -- P holds of each term before place k of the list and its word
 abbrev pub Settled : (ℕ → ℕ → Type 0) → List ℕ → ℕ → List ℕ → Type 0
@@ -92,13 +91,12 @@ module _ {rows bindings list : List ℕ} {n : ℕ} {P : ℕ → ℕ → Type 0} 
       record { listed = listed; fits = fits; within = zero-le; size = refl; behind = refl; settled = λ i l. absurd (not-suc-le-zero l) }
 
   module _ {words : List ℕ} {k : ℕ} (h : Filled rows bindings list n P words₀ words k) where
-    -- the next term is one, can be read, and its word written
+    -- the next term is one, each term has a word, and its word is written
     pub next-term : k < n → at list k < n
     next-term l = term-lt h.listed k l
 
-    pub next_readable : k < n → Readable rows bindings (at list k) (length words)
-    next_readable l =
-        readable rows bindings n (at list k) (length words) h.listed.good (next-term l) (omega (arith, h.size, h.fits))
+    pub next_reads : k < n → (at list k < n) × (n ≤ length words)
+    next_reads l = (next-term l, omega (arith, h.size, h.fits))
 
     pub next_fits : k < n → (k < length list) × (at list k < length words)
     next_fits l = (omega (arith, list-fits h.listed), omega (arith, next-term l, h.size, h.fits))

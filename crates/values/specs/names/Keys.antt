@@ -1,8 +1,7 @@
 -- Keys of terms: the symbol of an application and the classes of its arguments, and a hash of them. Assumes nothing: these are
 -- definitions.
-use Rattle.std.specs.Prelude.{◌≡◌, List, [], ◌∷◌, map, ℕ, suc, ◌+◌, ◌*◌, ◌/◌, ◌%◌, ◌≤◌, ◌<◌, length, get_or, Option, MatchOption}
-use Rattle.model.specs.Term.{Node, var, app, arguments}
-use Rattle.model.specs.Area.{term_words}
+use Rattle.std.specs.Prelude.{◌≡◌, List, [], ◌∷◌, map, ℕ, suc, ◌+◌, ◌*◌, ◌/◌, ◌%◌, ◌≤◌, ◌<◌, length, Option, MatchOption}
+use Rattle.model.specs.Term.{Node, var, app}
 use Rattle.layout.specs.limits.Rows.{at, node_of}
 
 -- The key of a node, where `below` gives the classes of its arguments. All variables have the empty one.
@@ -21,14 +20,10 @@ unfoldable pub hash_from : ℕ → List ℕ → ℕ
 hash_from h [] = h
 hash_from h (c ∷ cs) = hash_from (mixed h c) cs
 
--- Row t can be read, and its arguments are below m. The terms at the first k places of the list have such rows.
-pub record Row (rows : List ℕ) (m t : ℕ) : Type 0 where
-  pub row_fits : term_words * t + 2 + at rows (term_words * t + 1) ≤ length rows
-  pub arguments-below : (j : ℕ) → j < length (arguments (node_of rows t)) → get_or (arguments (node_of rows t)) j 0 < m
-
-pub record Rows (rows : List ℕ) (m : ℕ) (list : List ℕ) (k : ℕ) : Type 0 where
+-- The numbers at the first k places of the list are among n terms.
+pub record FirstTerms (list : List ℕ) (n k : ℕ) : Type 0 where
   pub list-fits : k ≤ length list
-  pub row : (j : ℕ) → j < k → Row rows m (at list j)
+  pub term : (j : ℕ) → j < k → at list j < n
 
 -- A place of the key of term t among the first k of the list, or none where there is none.
 abbrev pub Earlier : List ℕ → List ℕ → List ℕ → ℕ → ℕ → Option ℕ → Type 0

@@ -70,11 +70,13 @@ pub rows_ok-requires : goal.rows_ok-requires
 rows_ok-requires c =
     used _ _ (in_order (goal.at.rows_ok-requires c).Else-not-header_ok) _ c.load_header-header.ensures c.load.ensures
 
+pub invariant_of-name_terms : goal.invariant_of-name_terms
+invariant_of-name_terms c =
+    let ok = in_order (goal.at.invariant_of-name_terms c).Else-not-header_ok in
+    record { good = good-terms (state-at (goal.at.invariant_of-name_terms c).After-load) (used _ _ ok _ c.load_header-header.ensures c.load.ensures) (true_T _ (sym c.rows_ok.ensures ∙ c.if-rows_ok.true)) }
+
 pub name_terms-requires : goal.name_terms-requires
-name_terms-requires c =
-    let ok = in_order (goal.at.name_terms-requires c).Else-not-header_ok in
-    let head = c.load_header-header.ensures in
-    (good-terms (state-at (goal.at.name_terms-requires c).After-load) (used _ _ ok _ head c.load.ensures) (true_T _ (sym c.rows_ok.ensures ∙ c.if-rows_ok.true)), room-terms _ _ ok _ head c.requires.lent)
+name_terms-requires c = room-terms _ _ (in_order (goal.at.name_terms-requires c).Else-not-header_ok) _ c.load_header-header.ensures c.requires.lent
 
 pub table_ok-requires-clause-known : goal.table_ok-requires-clause-known
 table_ok-requires-clause-known c =

@@ -13,11 +13,14 @@ returns-in_err-early_refusal-clause-chosen c =
 pub overflow_add-bindings : goal.overflow_add-bindings
 overflow_add-bindings c = omega (arith, t_fits c.requires.known _ _ c.in_ok-early_refusal.ensures)
 
-pub bounds-bindings-i : goal.bounds-bindings-i
-bounds-bindings-i c = v_fits c.requires.known _ _ c.in_ok-early_refusal.ensures
+pub bounds-bindings-v : goal.bounds-bindings-v
+bounds-bindings-v c = v_fits c.requires.known _ _ c.in_ok-early_refusal.ensures
 
-pub rebuild-requires : goal.rebuild-requires
-rebuild-requires c = to_rebuild c.requires.known _ _ c.in_ok-early_refusal.ensures c.early_refusal.auto.flags
+pub invariant_of-terms : goal.invariant_of-terms
+invariant_of-terms c = record { good = (to_rebuild c.requires.known _ _ c.in_ok-early_refusal.ensures c.early_refusal.auto.flags).good }
+
+pub rebuild-requires-clause-table : goal.rebuild-requires-clause-table
+rebuild-requires-clause-table c = to_rebuild c.requires.known _ _ c.in_ok-early_refusal.ensures c.early_refusal.auto.flags
 
 pub returns-clause-chosen : goal.returns-clause-chosen
 returns-clause-chosen c = λ lim lines a. chosen a _ _ c.in_ok-early_refusal.ensures c.rebuild.auto.entries c.rebuild.ensures.settled

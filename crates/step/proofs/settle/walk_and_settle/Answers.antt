@@ -11,7 +11,7 @@ returns-in_err-w-clause-settled c =
 
 -- the numbers of the answer lie in their ranges
 pub overflow_cast-result : goal.overflow_cast-result
-overflow_cast-result c = omega (arith, (ranges c.args.h c.in_ok-w.ensures.walked c.requires).turned-old)
+overflow_cast-result c = let r = ranges c.args.h c.in_ok-w.ensures.walked c.requires in omega arith
 
 pub overflow_sub-result : goal.overflow_sub-result
 overflow_sub-result c = omega (arith, (ranges c.args.h c.in_ok-w.ensures.walked c.requires).longer)

@@ -7,7 +7,7 @@ use Rattle.table.proofs.saturate.walk.Given as goal
 abbrev pub invariant-loop-i : goal.invariant-loop-i
 invariant-loop-i l =
     record {
-      walking : Walking l.rows l.roots l.names l.fn.entries l.fn.index.lefts.now l.fn.index.rights.now l.fn.index.cells.now l.capacity l.m l.entries l.index.lefts.now l.index.rights.now l.index.cells.now l.w l.i;
+      walking : Walking l.terms.rows.now l.terms.roots.now l.terms.names.now l.fn.entries l.fn.index.lefts.now l.fn.index.rights.now l.fn.index.cells.now l.capacity l.m l.entries l.index.lefts.now l.index.rights.now l.index.cells.now l.w l.i;
       same : SameSlices l.fn.index l.index;
     }
 

@@ -11,18 +11,18 @@ loop-j-init c = record { placing = placing_none _ _ _ _ _ _ _ _ _; same = search
 
 pub place-requires : goal.place-requires
 place-requires c =
-    let p = pair-at c.args.rows.now c.args.l c.args.r c.loop-j.j c.requires.left c.requires.right c.requires.given.known.pairs c.loop-j-test.true in
+    let p = pair-at c.args.terms.rows.now c.args.l c.args.r c.loop-j.j c.requires.left c.requires.right c.requires.given.known.pairs c.loop-j-test.true in
     next_given c.loop-j.invariant.placing p.there p.left p.right c.requires.given
 
 pub returns-in_err-p-clause-placed : goal.returns-in_err-p-clause-placed
 returns-in_err-p-clause-placed c =
-    let p = pair-at c.args.rows.now c.args.l c.args.r c.loop-j.j c.requires.left c.requires.right c.requires.given.known.pairs c.loop-j-test.true in
+    let p = pair-at c.args.terms.rows.now c.args.l c.args.r c.loop-j.j c.requires.left c.requires.right c.requires.given.known.pairs c.loop-j-test.true in
     let e = err_from_is_err_and c.from_residual.result c.from_residual.ensures.1 in
     rw (e.1, e.2) (placing_full c.loop-j.invariant.placing p.there p.left p.right c.in_err-p.ensures.placed)
 
 pub loop-j-preserved : goal.loop-j-preserved
 loop-j-preserved c =
-    let p = pair-at c.args.rows.now c.args.l c.args.r c.loop-j.j c.requires.left c.requires.right c.requires.given.known.pairs c.loop-j-test.true in
+    let p = pair-at c.args.terms.rows.now c.args.l c.args.r c.loop-j.j c.requires.left c.requires.right c.requires.given.known.pairs c.loop-j-test.true in
     record {
       placing = placing_more c.loop-j.invariant.placing p.there p.left p.right c.in_ok-p.ensures.placed
           (index_sizes c.place.auto.entries c.place.ensures.same_slices);

@@ -12,11 +12,11 @@ pub returns-then-e-ne0-clause-visited : goal.returns-then-e-ne0-clause-visited
 returns-then-e-ne0-clause-visited c b β es q = visit-common q _ c.entry_at-e.ensures c.if-e-ne0.true
 
 -- the sides are terms, and so is what they stand for
-pub bounds-roots-left : goal.bounds-roots-left
-bounds-roots-left c = omega (arith, left_lt c.requires.known _ c.entry_at-e.ensures, c.requires.known.known.roots_fit)
+pub bounds-terms-left : goal.bounds-terms-left
+bounds-terms-left c = omega (arith, left_lt c.requires.known _ c.entry_at-e.ensures, c.requires.known.known.roots_fit)
 
-pub bounds-roots-right : goal.bounds-roots-right
-bounds-roots-right c = omega (arith, right_lt c.requires.known _ c.entry_at-e.ensures, c.requires.known.known.roots_fit)
+pub bounds-terms-right : goal.bounds-terms-right
+bounds-terms-right c = omega (arith, right_lt c.requires.known _ c.entry_at-e.ensures, c.requires.known.known.roots_fit)
 
 pub alike-requires-clause-left : goal.alike-requires-clause-left
 alike-requires-clause-left c = left_end c.requires.known _ c.entry_at-e.ensures

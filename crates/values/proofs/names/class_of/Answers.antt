@@ -1,22 +1,15 @@
 -- At each return what was read says which case of a class holds.
-use Rattle.std.proofs.Common.{◌≡◌, sym, ◌∙◌, arith}
-use Rattle.model.specs.Term.{var, app}
+use Rattle.std.proofs.Common.{arith}
 use Rattle.values.proofs.roots.Reading.{bound_below}
 use Rattle.values.proofs.roots.Settled.{list-fits}
-use Rattle.values.proofs.names.ClassOf.{t_readable, earlier_rows, earlier_place, class-free, class-bound, class-new, old-place, class-old}
+use Rattle.values.proofs.names.ClassOf.{t_lt, earlier_terms, earlier_place, class-free, class-bound, class-new, old-place, class-old}
 use Rattle.values.proofs.names.class_of.Goals as goal
 
 pub bounds-list-k : goal.bounds-list-k
 bounds-list-k c = omega (arith, list-fits c.requires.listed, c.requires.within)
 
-pub arguments-requires : goal.arguments-requires
-arguments-requires c = (t_readable c.requires).row_fits
-
-pub earlier-requires-clause-rows : goal.earlier-requires-clause-rows
-earlier-requires-clause-rows c = earlier_rows c.requires
-
-pub earlier-requires-clause-application : goal.earlier-requires-clause-application
-earlier-requires-clause-application c = λ e. let z : var ≡ app _ c.in-Some-default.field-0-0.now = sym e ∙ c.in-Some-default.ensures in absurd (cc)
+pub earlier-requires-clause-terms : goal.earlier-requires-clause-terms
+earlier-requires-clause-terms c = earlier_terms c.requires
 
 pub earlier-requires-clause-place : goal.earlier-requires-clause-place
 earlier-requires-clause-place c = earlier_place c.requires
@@ -34,7 +27,7 @@ pub returns-in-None : goal.returns-in-None
 returns-in-None c = class-new c.requires c.in-Some-default.ensures c.in-None.ensures
 
 pub bounds-classes-u : goal.bounds-classes-u
-bounds-classes-u c = bound_below (t_readable c.requires) c.in-None-Some.ensures c.in-None-Some.ensures'
+bounds-classes-u c = omega (arith, bound_below c.args.terms.good (t_lt c.requires) c.in-None-Some.ensures', c.requires.classes_fit)
 
 pub returns-in-None-Some : goal.returns-in-None-Some
 returns-in-None-Some c = class-bound c.requires c.in-None-Some.ensures c.in-None-Some.ensures'

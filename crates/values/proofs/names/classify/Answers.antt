@@ -1,20 +1,11 @@
 -- Each turn pushes the hash of one key more, and finds its class.
 use Rattle.std.proofs.Common.{rules, sym, arith}
 use Rattle.values.proofs.roots.Settled.{length-list, turn}
-use Rattle.values.proofs.names.Classifying.{classifying_none, next_row, next_classable, classifying_more, classified}
+use Rattle.values.proofs.names.Classifying.{next_classable, classifying_more, classified}
 use Rattle.values.proofs.names.classify.Goals as goal
 
 pub slice_bounds-t-items-end : goal.slice_bounds-t-items-end
 slice_bounds-t-items-end c = sym (length-list c.requires.listed)
-
-pub loop-k-init : goal.loop-k-init
-loop-k-init c =
-    let s = c.clear.ensures.same_slices in
-    record { same = s; classifying = classifying_none c.requires.listed c.requires.scratch c.clear.ensures.indexed s }
-
-pub key_hash-h-requires : goal.key_hash-h-requires
-key_hash-h-requires c =
-    let t = turn c.requires.listed c.loop-k.k c.loop-k-test.true in rw t.1 (next_row c.loop-k.invariant.classifying t.0)
 
 pub class_of-requires : goal.class_of-requires
 class_of-requires c =

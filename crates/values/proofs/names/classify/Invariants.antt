@@ -7,5 +7,5 @@ abbrev pub invariant-loop-k : goal.invariant-loop-k
 invariant-loop-k l =
     record {
       same : SameSlices l.fn.index l.index;
-      classifying : Classifying l.rows l.bindings l.list l.n l.initial.classes l.classes l.index.lefts.now l.index.rights.now l.index.cells.now l.k;
+      classifying : Classifying l.terms.rows.now l.terms.bindings.now l.list l.terms.n l.initial.classes l.classes l.index.lefts.now l.index.rights.now l.index.cells.now l.k;
     }

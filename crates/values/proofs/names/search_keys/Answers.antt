@@ -6,20 +6,20 @@ use Rattle.std.proofs.lemmas.Iterator.{YieldsList-from_slice, IsFirst-from_posit
 use Rattle.std.proofs.lemmas.Iterator.Adapters.{serves_from_places}
 use Rattle.std.proofs.Math.Seq.{get_or-take, length-take-le}
 use Rattle.layout.specs.limits.Rows.{at}
-use Rattle.values.specs.names.Keys.{key_at, Row, Rows, Earlier}
+use Rattle.values.specs.names.Keys.{key_at, FirstTerms, Earlier}
 use Rattle.values.proofs.names.Keys.{test_same, test_other}
 use Rattle.values.proofs.names.search_keys.Goals as goal
 
--- a term at one of the first k places has a row that can be read
-row_at : {rows list : List ℕ} {m k : ℕ} → Rows rows m list k → (j u : ℕ) → j < length (take k list) → u ≡ get_or (take k list) j u → Row rows m u
-row_at {list = list} {k = k} r j u l e =
+-- what stands at one of the first k places is a term
+term_at : {list : List ℕ} {n k : ℕ} → FirstTerms list n k → (j u : ℕ) → j < length (take k list) → u ≡ get_or (take k list) j u → u < n
+term_at {list} {n} {k} r j u l e =
     let m : j < k = omega (arith, length-take-le k list r.list-fits) in
-    rw (e ∙ get_or_default (take k list) j u 0 l ∙ get_or-take k list j 0 m) (r.row j m)
+    rw (e ∙ get_or_default (take k list) j u 0 l ∙ get_or-take k list j 0 m) (r.term j m)
 
 pub position-requires-clause-callable : goal.position-requires-clause-callable
 position-requires-clause-callable c =
     serves_from_places (YieldsList-from_slice (take c.args.k c.args.list.now) cc) (λ x q k. search (rules, tests))
-    (λ x j l e. let row : Row c.args.rows.now (length c.args.classes.now) x.now = row_at c.requires.rows.0 j x.now l e in search rules)
+    (λ x j l e. let term : x.now < c.args.terms.n = term_at c.requires.terms.0 j x.now l e in search rules)
 
 -- the first of the places, where there is one
 module _ (rows classes list : List ℕ) (k t : ℕ) (fits : k ≤ length list) where
@@ -40,10 +40,10 @@ module _ (rows classes list : List ℕ) (k t : ℕ) (fits : k ≤ length list) w
 
 pub returns : goal.returns
 returns c =
-    let rows = c.args.rows.now in
+    let rows = c.args.terms.rows.now in
     let classes = c.args.classes.now in
     let list = c.args.list.now in
-    let fits = c.requires.rows.0.list-fits in
+    let fits = c.requires.terms.0.list-fits in
     first_place rows classes list c.args.k c.args.t fits _
     (IsFirst-from_position _ _ c.position.result (Same rows classes list c.args.k c.args.t fits) (Other rows classes list c.args.k c.args.t fits)
     c.position.ensures.ran (YieldsList-from_slice (take c.args.k list) cc) (λ x q k. search (rules, test_same)) (λ x q k. search (rules, test_other)))

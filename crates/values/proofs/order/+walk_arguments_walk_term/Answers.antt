@@ -1,5 +1,5 @@
 -- A walk of parts goes from part to part; a walk of a term marks it before and behind the walk of its parts (Outcomes).
-use Rattle.std.proofs.Common.{◌≡◌, List, ℕ, ◌<◌, length, get_or, arith}
+use Rattle.std.proofs.Common.{◌≡◌, List, ℕ, ◌<◌, length, get_or, arith, rules}
 use Rattle.values.specs.order.Marking.{parts_in, Walkable}
 use Rattle.values.proofs.order.Outcomes.{term-room, outcome-finished, outcome_met, New, start-ready, fewer_left, outcome_stuck, next_place, outcome-term, Between, Part, outcome-parts, part_ready, outcome_part, between_more}
 use Rattle.values.proofs.order.+walk_arguments_walk_term.Goals as goal
@@ -71,8 +71,9 @@ walk_term-bounds-list-place t c =
 
 pub walk_term-overflow_add-result : goal.walk_term-overflow_add-result
 walk_term-overflow_add-result t c =
-    let placed = next_place (new_at c.requires c.if-mark-eq-FINISHED.false c.if-mark-eq-IN_PROGRESS.false) c.in_ok-place.ensures in
-    omega (arith, placed.0, c.ranges.n)
+    let within : c.in_ok-place.place < c.args.terms.now.n =
+    (next_place (new_at c.requires c.if-mark-eq-FINISHED.false c.if-mark-eq-IN_PROGRESS.false) c.in_ok-place.ensures).0 in
+    search rules
 
 pub walk_term-returns : goal.walk_term-returns
 walk_term-returns t c =

@@ -4,4 +4,4 @@ use Rattle.values.proofs.roots.Flags.{IsFlag}
 use Rattle.values.proofs.roots.occurs_in.Given as goal
 
 abbrev pub invariant-loop-u : goal.invariant-loop-u
-invariant-loop-u l = Filled l.rows l.bindings l.list l.n (IsFlag l.rows l.bindings l.n l.v) l.initial.flags l.flags l.u-index
+invariant-loop-u l = Filled l.terms.rows.now l.terms.bindings.now l.list l.terms.n (IsFlag l.terms.rows.now l.terms.bindings.now l.terms.n l.v) l.initial.flags l.flags l.u-index

@@ -4,4 +4,4 @@ use Rattle.values.proofs.roots.RootStep.{IsRoot}
 use Rattle.values.proofs.roots.roots.Given as goal
 
 abbrev pub invariant-loop-t : goal.invariant-loop-t
-invariant-loop-t l = Filled l.rows l.bindings l.list l.n (IsRoot l.rows l.bindings l.n) l.initial.roots l.roots l.t-index
+invariant-loop-t l = Filled l.terms.rows.now l.terms.bindings.now l.list l.terms.n (IsRoot l.terms.rows.now l.terms.bindings.now l.terms.n) l.initial.roots l.roots l.t-index

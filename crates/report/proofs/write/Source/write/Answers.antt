@@ -1,17 +1,15 @@
 -- `write::Source::write` meets its contract: each entry is laid behind what was written. Assumes nothing.
 use Rattle.std.proofs.Common.{◌+◌, ap, length, arith}
-use Rattle.std.proofs.Math.Seq.{take-length}
 use Rattle.report.proofs.write.Rows.{within}
-use Rattle.report.proofs.write.Bytes.{run_whole, rows_short}
+use Rattle.report.proofs.write.Bytes.{rows_short}
 use Rattle.report.proofs.write.Given.{given_le, given_head}
 use Rattle.report.proofs.write.Writing.{head_laid, written_fits, entry_room, entry_laid, report_laid}
 use Rattle.report.proofs.write.Source.write.Goals as goal
 
 pub put_run-at-requires : goal.put_run-at-requires
 put_run-at-requires c = (
-  omega arith,
-  rw take-length (given_head c.args.self),
-  given_le c.args.self _ _ (λ s shows. rw (run_whole, shows.1) (omega (arith, rows_short s 0, c.requires s shows))),
+  given_head c.args.self,
+  given_le c.args.self _ _ (λ s shows. rw shows.1 (omega (arith, rows_short s 0, c.requires s shows))),
 )
 
 pub loop-n-init : goal.loop-n-init

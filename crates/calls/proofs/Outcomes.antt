@@ -82,19 +82,6 @@ module _ (lim : Limits) (area : List ℕ) where
         → area' ≡ stored_bytes (number s) w' area → Called (call_step lim step area) step (answer_of s) area'
     called s g e = rw (of_step step t, e) (answered lim w' step area (step_of lim step (state_of area lim)) s (rw same at g))
 
-  -- either call by itself: a line was added, or a choice was fixed
-  module _ {a : Result Accepted Refusal} {area' : List ℕ} where
-    pub line_added : {l r : ℕ} → Called (call_step lim (Add l r) area) (Add l r) a area'
-        → let o = call_add lim area l r in (number a ≡ o.refusal) × ((entry_number a ∷ [] ≡ o.numbers) × (area' ≡ o.area))
-    unfolding call_step step_numbers
-    line_added c = (c.refusal, (c.numbers, c.bytes))
-
-    pub choice_fixed : {v t : ℕ} → Called (call_step lim (Bind v t) area) (Bind v t) a area'
-        → let o = call_bind lim area v t in
-        (number a ≡ o.refusal) × ((turned_number a ∷ appended_number a ∷ [] ≡ o.numbers) × (area' ≡ o.area))
-    unfolding call_step step_numbers
-    choice_fixed c = (c.refusal, (c.numbers, c.bytes))
-
 -- a sound area has room for what is stored
 pub stored_fits : (lim : Limits) (area : List ℕ) (w : Loaded) → sound lim area ≡ true → loaded_state w ≡ state_of area lim
     → area_length lim w.capacity ≤ length area

@@ -7,48 +7,16 @@ ghost use Rattle.model.specs.Limits.{office};
 ghost use Rattle.model.specs.Call.{call_open, call_add, call_bind, call_copy, call_entry, call_report, call_write};
 ghost use Rattle.model.specs.Archive.{call_store, call_restore};
 ghost use Rattle.office.specs.opening.Offered.{needed_length};
-ghost use Rattle.step.specs.answer.Stepped.{entry_number, turned_number, appended_number};
 
-use step::answer::{Step, StepAnswer};
-
-// The numbers of a step's answer: the entry of a line, how many entries a choice turned and how many it appended; 0 where the answer has
-// none.
-fn entry_number(answer: StepAnswer) -> u32
-    ensures { result ≡ entry_number answer }
-{
-    match answer {
-        StepAnswer::Refused(n) => 0,
-        StepAnswer::Added(entry) => entry,
-        StepAnswer::Bound(turned, appended) => 0,
-    }
-}
-
-fn turned_number(answer: StepAnswer) -> u32
-    ensures { result ≡ turned_number answer }
-{
-    match answer {
-        StepAnswer::Refused(n) => 0,
-        StepAnswer::Added(entry) => 0,
-        StepAnswer::Bound(turned, appended) => turned,
-    }
-}
-
-fn appended_number(answer: StepAnswer) -> u32
-    ensures { result ≡ appended_number answer }
-{
-    match answer {
-        StepAnswer::Refused(n) => 0,
-        StepAnswer::Added(entry) => 0,
-        StepAnswer::Bound(turned, appended) => appended,
-    }
-}
+use step::answer::{Accepted, Step};
 
 // The length in bytes that an area of this capacity needs, 0 for a capacity out of range.
+#[tactic(auto, using(std::proofs::lemmas::Bool::Decides::nat_tests), unfolding(office::specs::opening::Offered::length_of, office::specs::opening::Offered::needed_length))]
 #[unsafe(no_mangle)]
 pub extern "C" fn fit_area_length(capacity: u32) -> usize
     ensures { result ≡ needed_length capacity }
 {
-    office::opening::area_length(capacity)
+    office::opening::area_length(capacity).unwrap_or(0)
 }
 
 // Opens a book in an area: 4 for the capacity, 7 for an area that is too short, then the book's refusals. Where it is
@@ -58,11 +26,12 @@ pub extern "C" fn fit_open(capacity: u32, book: &[u8], area: &mut [u8]) -> u32
     ensures refusal { result ≡ (call_open office capacity book.now area.old).refusal }
     ensures area { area.new ≡ (call_open office capacity book.now area.old).area }
 {
-    office::opening::open(capacity, book, area)
+    refusal::number(office::opening::open(capacity, book, area))
 }
 
 // Adds the line (`l`, `r`): 7 for an area that is not sound, 8 where one is no term, 12 where there is no room for a line, 11 where
 // there is none for its entries. `entry` is the line's entry, 0 on a refusal.
+#[tactic(auto, unfolding(calls::specs::Called::call_step, step::specs::answer::Stepped::step_numbers))]
 #[unsafe(no_mangle)]
 pub extern "C" fn fit_add(area: &mut [u8], l: u32, r: u32, entry: &mut u32) -> u32
     ensures refusal { result ≡ (call_add office area.old l r).refusal }
@@ -70,13 +39,17 @@ pub extern "C" fn fit_add(area: &mut [u8], l: u32, r: u32, entry: &mut u32) -> u
     ensures area { area.new ≡ (call_add office area.old l r).area }
 {
     let answer = office::steps::step(area, Step::Add(l, r));
-    *entry = entry_number(answer);
-    step::answer::refusal_number(answer)
+    *entry = match answer {
+        Ok(Accepted::Added { entry }) => entry,
+        _ => 0,
+    };
+    refusal::number(answer)
 }
 
 // Fixes the choice (`v`, `t`): 7 for an area that is not sound, 8 where one is no term, 9 where `v` is not a free variable, 10 where
 // it occurs in the value of `t`, 11 where there is no room for the entries. `turned` and `appended` are how many old entries turned
 // and how many were appended, 0 on a refusal.
+#[tactic(auto, unfolding(calls::specs::Called::call_step, step::specs::answer::Stepped::step_numbers))]
 #[unsafe(no_mangle)]
 pub extern "C" fn fit_bind(
     area: &mut [u8],
@@ -90,9 +63,11 @@ pub extern "C" fn fit_bind(
     ensures area { area.new ≡ (call_bind office area.old v t).area }
 {
     let answer = office::steps::step(area, Step::Bind(v, t));
-    *turned = turned_number(answer);
-    *appended = appended_number(answer);
-    step::answer::refusal_number(answer)
+    (*turned, *appended) = match answer {
+        Ok(Accepted::Bound { turned, appended }) => (turned, appended),
+        _ => (0, 0),
+    };
+    refusal::number(answer)
 }
 
 // Reads a book and writes it back, with no area: the book's refusals, then 13 where `out` is too short. `written` is the
@@ -103,7 +78,9 @@ pub extern "C" fn fit_copy_book(book: &[u8], out: &mut [u8], written: &mut u32) 
     ensures written { written.new ∷ [] ≡ (call_copy office book.now out.old).numbers }
     ensures output { out.new ≡ (call_copy office book.now out.old).output }
 {
-    office::copy::copy_book(book, out, written)
+    let answer = office::copy::copy_book(book, out);
+    *written = answer.unwrap_or(0);
+    refusal::number(answer)
 }
 
 // Stores a book: with its variables first in `out`, and in `list` the old number of each of its terms. The book's refusals, then 13 where
@@ -121,7 +98,12 @@ pub extern "C" fn fit_store_book(
     ensures output { out.new ≡ (call_store office book.now out.old list.old).output }
     ensures list { list.new ≡ (call_store office book.now out.old list.old).list }
 {
-    office::store::store_book(book, out, list, written, list_written)
+    let answer = office::store::store_book(book, out, list);
+    (*written, *list_written) = match answer {
+        Ok(lengths) => (lengths.book, lengths.list),
+        Err(_) => (0, 0),
+    };
+    refusal::number(answer)
 }
 
 // Restores a book: that of which `book` is the renumbering by `list`. The book's refusals, the list's (1, 2, 3, 8, 14), then 5, then 13
@@ -137,7 +119,9 @@ pub extern "C" fn fit_restore_book(
     ensures written { written.new ∷ [] ≡ (call_restore office book.now list.now out.old).numbers }
     ensures output { out.new ≡ (call_restore office book.now list.now out.old).output }
 {
-    office::restore::restore_book(book, list, out, written)
+    let answer = office::restore::restore_book(book, list, out);
+    *written = answer.unwrap_or(0);
+    refusal::number(answer)
 }
 
 // Reads an entry: 7 for an area that is not sound, 8 where there is no such entry. `fields` are left, right, kind, symbol, count,
@@ -151,7 +135,9 @@ pub extern "C" fn fit_entry(
     ensures refusal { result ≡ (call_entry office area.now i).refusal }
     ensures fields { fields.new ≡ (call_entry office area.now i).numbers }
 {
-    office::entry::entry(area, i, fields)
+    let answer = office::entry::entry(area, i);
+    *fields = office::entry::fields(answer);
+    refusal::number(answer)
 }
 
 // Writes the book of an area: 7 for an area that is not sound, then 13 where `out` is too short. `written` is the number of bytes
@@ -162,7 +148,9 @@ pub extern "C" fn fit_write(area: &[u8], out: &mut [u8], written: &mut u32) -> u
     ensures written { written.new ∷ [] ≡ (call_write office area.now out.old).numbers }
     ensures output { out.new ≡ (call_write office area.now out.old).output }
 {
-    office::books::write(area, out, written)
+    let answer = office::books::write(area, out);
+    *written = answer.unwrap_or(0);
+    refusal::number(answer)
 }
 
 // Reports an area: 7 for an area that is not sound, then 13 where `out` is too short. `written` is the number of bytes written,
@@ -173,5 +161,7 @@ pub extern "C" fn fit_report(area: &[u8], out: &mut [u8], written: &mut u32) -> 
     ensures written { written.new ∷ [] ≡ (call_report office area.now out.old).numbers }
     ensures output { out.new ≡ (call_report office area.now out.old).output }
 {
-    office::reports::report(area, out, written)
+    let answer = office::reports::report(area, out);
+    *written = answer.unwrap_or(0);
+    refusal::number(answer)
 }

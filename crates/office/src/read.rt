@@ -1,4 +1,6 @@
 // An area read into arrays of the office's sizes, for the calls that show what it holds.
+// Each call has the arrays that it reads into, as `steps` has its own: a rule of the project, fixed memory in the shells. One function could
+// hold them only around a closure, whose contract would be longer than they are.
 
 ghost use Rattle.std.specs.Prelude.{◌≡◌, true, false, ◌*◌, length, MatchResult};
 ghost use Rattle.model.specs.Limits.{office};

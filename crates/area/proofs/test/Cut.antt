@@ -44,10 +44,6 @@ module _ (lim : Limits) (area : List ℕ) (ok : T (header_ok lim area)) where
           entries_size = length-take-le (entry_row_words * h.capacity) entries cut_fits ∙ ap (λ n. entry_row_words * n) head.0;
         }
 
--- with another part of that length the slice is as long as it was
-pub cut-length : (n : ℕ) (xs part : List ℕ) → length part ≡ length (take n xs) → length (part ++ drop n xs) ≡ length xs
-cut-length n xs part e = rw (length-append part (drop n xs), e, ← length-append (take n xs) (drop n xs), take-append-drop n xs)
-
 -- what was read into that part stands at the front of the slice
 pub cut-read : (lim : Limits) (area : List ℕ) (h : Header) → HeaderOf area h → {rows bindings lines part list roots names : List ℕ}
     → length part ≡ entry_row_words * h.capacity → ReadFrom lim area (held h rows bindings lines part) list roots names → (rest : List ℕ)

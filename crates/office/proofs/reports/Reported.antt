@@ -40,22 +40,6 @@ ready_told {w} r =
 
 -- An area that is, and what was read of it.
 module _ {area rows names lines entries : List ℕ} (h : Viewed area rows names lines entries) where
-  -- the rows of its capacity and its lines lie in their slices, and its lines and entries are few
-  pub cut_fits : (n : ℕ) → n ≡ word area 0 → entry_row_words * n ≤ length entries
-  unfolding header_of
-  cut_fits n e =
-      omega (arith, length-take (entry_row_words * word area 0) entries, h.read.ready.sizes.entries_size)
-
-  pub lines_fit : (k : ℕ) → k ≡ word area 3 → k ≤ length lines
-  unfolding header_of
-  lines_fit k e = omega (arith, h.read.ready.used.lines_fit)
-
-  pub few-lines : (k : ℕ) → length (take k lines) ≤ office.max_lines
-  few-lines k = omega (arith, length-take k lines, h.read.ready.sizes.lines_size)
-
-  pub few-entries : word area 2 ≤ office.max_capacity
-  few-entries = omega (arith, read-entries h.read, (read_facts h.read).few-entries, (read_facts h.read).capacity-fits)
-
   -- they are told with the names
   pub read_told : (n k : ℕ) → n ≡ word area 0 → k ≡ word area 3 → Told (state_of area office) names (take k lines) (take (entry_row_words * n) entries)
   unfolding header_of

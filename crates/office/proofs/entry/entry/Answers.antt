@@ -1,5 +1,5 @@
 -- `entry::entry` meets its contract: each return is a case of reading an entry (proofs/entry/EntryCases.antt). Assumes nothing.
-use Rattle.std.proofs.Common.{◌≡◌, arith, ◌∙◌, ◌<◌}
+use Rattle.std.proofs.Common.{arith, ◌∙◌, ◌<◌}
 use Rattle.std.proofs.lemmas.Result.{err_from_is_err_and}
 use Rattle.model.specs.Area.{word}
 use Rattle.area.proofs.load.Uses.{read-entries, entry-within, entry_row}

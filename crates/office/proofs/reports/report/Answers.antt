@@ -4,7 +4,6 @@ use Rattle.std.proofs.Common.{sym, ◌∙◌}
 use Rattle.std.proofs.lemmas.Result.{err_from_is_err_and}
 use Rattle.model.specs.Limits.{office}
 use Rattle.model.specs.Area.{state_of}
-use Rattle.report.specs.write.Shown.{GivenState}
 use Rattle.area.proofs.load.Uses.{read-entries}
 use Rattle.office.proofs.read.Headed.{headed}
 use Rattle.office.proofs.reports.Reported.{report_seven, read_told, written-report}

@@ -130,10 +130,11 @@ module _ (input area out : List ℕ) (at : ℕ) where
   -- by the step s that was asked for
   module _ {q : Command} (e : q ≡ command_at input at) {next : ℕ} (h : q ≡ Report next) (report text : List ℕ) where
     -- a report that is kept
-    pub report_kept : (n : ℕ) → KeptReport area out report (Some n)
+    pub report_kept : {kept : Option ℕ} → KeptReport area out report kept → {n : ℕ} → kept ≡ Some n
         → Turned area out report text next (ShownReport n) (Some n) (length input) (step_at input area out at)
     unfolding perform
-    report_kept n k =
+    report_kept known {n} some =
+        let k = rw some at known in
         rw (by_command input area out at e h)
         (record {
           area = sym (demand_1.reporting office area out).1;

@@ -7,7 +7,7 @@ use Rattle.printing.proofs.turns.take_turn.Goals as goal
 
 pub returns-in-Some : goal.returns-in-Some
 returns-in-Some c =
-    report_kept _ _ _ _ c.command_at.ensures.command c.in-Report.is _ c.args.text.now _ (rw c.in-Some.is at c.requires.kept)
+    report_kept _ _ _ _ c.command_at.ensures.command c.in-Report.is _ c.args.text.now c.requires.kept c.in-Some.is
 
 pub returns-in-None : goal.returns-in-None
 returns-in-None c =

@@ -4,7 +4,7 @@
 ghost use Rattle.std.specs.Prelude.{◌≡◌, ◌≤◌, length};
 ghost use Rattle.session.specs.text.Text.{line_most};
 ghost use Rattle.session.specs.steps.Effects.{next_or, step_at};
-ghost use Rattle.printing.specs.turns.Turns.{printed, Shows, KeptReport};
+ghost use Rattle.printing.specs.turns.Turns.{printed, Front, buffer_of, size_of, KeptReport};
 
 use session::command::Command;
 use session::steps::Reply;
@@ -55,7 +55,7 @@ pub fn take_turn(
     ensures area { area.new ≡ (step_at input.now area.old out.old at).area }
     ensures output { out.new ≡ (step_at input.now area.old out.old at).output }
     ensures next { result.next ≡ next_or (length input.now) (step_at input.now area.old out.old at).answer }
-    ensures printed { Shows report.new text.new result.shown (printed (step_at input.now area.old out.old at)) }
+    ensures printed { Front (buffer_of report.new text.new result.shown) (size_of result.shown) (printed (step_at input.now area.old out.old at)) }
     ensures kept { KeptReport area.new out.new report.new result.kept }
 {
     if let Command::Report(next) = session::command::command_at(input, at) {

@@ -29,7 +29,7 @@ use Rattle.session.specs.steps.Lines.{lines}
 use Rattle.std.specs.Prelude.{Option, None, Some}
 use Rattle.printing.specs.declared.turns.Shown.{Shown}
 use Rattle.printing.specs.declared.turns.Shown.TheVariants.{Line, Report as ShownReport}
-use Rattle.printing.specs.turns.Turns.{printed, Front, Shows, KeptReport}
+use Rattle.printing.specs.turns.Turns.{printed, Front, buffer_of, size_of, KeptReport}
 use Rattle.printing.proofs.turns.Again.{report_again}
 
 -- TEXT. The line of an answer goes to the front of a buffer, as module lines has it.
@@ -122,7 +122,7 @@ Turned area' out' report text next' shown kept' over s = record {
   area : area' ≡ s.area;
   output : out' ≡ s.output;
   next : next' ≡ next_or over s.answer;
-  printed : Shows report text shown (printed s);
+  printed : Front (buffer_of report text shown) (size_of shown) (printed s);
   kept : KeptReport area' out' report kept';
 }
 

@@ -16,10 +16,14 @@ printed s = lines_text (lines s.answer s.output)
 abbrev pub Front : List ℕ → ℕ → List ℕ → Type 0
 Front buffer n bytes = (n ≤ length buffer) × (take n buffer ≡ bytes)
 
--- The text that a turn shows stands in the first bytes of the buffer of reports, or of that of lines.
-abbrev pub Shows : List ℕ → List ℕ → Shown → List ℕ → Type 0
-Shows report text (Line n) bytes = Front text n bytes
-Shows report text (Report n) bytes = Front report n bytes
+-- The buffer that a turn shows, of that of reports and that of lines, and how much of it.
+abbrev pub buffer_of : List ℕ → List ℕ → Shown → List ℕ
+buffer_of report text (Line n) = text
+buffer_of report text (Report n) = report
+
+abbrev pub size_of : Shown → ℕ
+size_of (Line n) = n
+size_of (Report n) = n
 
 -- What is kept: nothing; or a report asked for now, wherever it is asked for, leaves the output as it is, and prints the first n bytes
 -- of the buffer.

@@ -1,4 +1,4 @@
--- `run_session` meets its contract: the steps go on from where the opening leads. Assumes nothing.
+-- `run` meets its contract: the steps go on from where the opening leads. Assumes nothing.
 use Rattle.std.proofs.Common.{arith, ◌≡◌, refl, ◌∙◌, ap, sym, length, ℕ, List}
 use Rattle.session.specs.declared.steps.Begun.{Begun}
 use Rattle.session.specs.declared.steps.Begun.TheVariants.{Refused, At}
@@ -6,7 +6,7 @@ use Rattle.session.specs.steps.Effects.{start, first_or}
 use Rattle.session.proofs.fault.Accepted.{accepted_short}
 use Rattle.printing.specs.whole.Loop.{standing, after_start, end_from, session_end}
 use Rattle.printing.proofs.whole.Loop.{turn_by_turn}
-use Rattle.sessions.proofs.run_session.Goals as goal
+use Rattle.sessions.proofs.Buffers.run.Goals as goal
 
 -- where the opening leads, by its answer
 module _ (input area out area' : List ℕ) (left : area' ≡ (start input area).area) where
@@ -24,13 +24,13 @@ module _ (input area out area' : List ℕ) (left : area' ≡ (start input area).
   unfolding session_end first_or
   goes_on answered = sym (ap (end_from input) (leads answered))
 
-pub steps-requires-clause-input : goal.steps-requires-clause-input
-steps-requires-clause-input g c = accepted_short _ _ _ (sym c.in-At.ensures.answer)
+pub steps-requires : goal.steps-requires
+steps-requires g c = accepted_short _ _ _ (sym c.in-At.ensures.answer)
 
 pub returns-in-Refused : goal.returns-in-Refused
 returns-in-Refused g c =
-    ends c.args.input.now c.args.area.now c.args.out.now c.open-begun.new.area c.in-Refused.ensures.area c.in-Refused.ensures.answer
+    ends c.args.input.now c.args.self.now.area c.args.self.now.out c.open-begun.new.area c.in-Refused.ensures.area c.in-Refused.ensures.answer
 
 pub returns-in-At : goal.returns-in-At
 returns-in-At g c =
-    c.steps.ensures ∙ goes_on c.args.input.now c.args.area.now c.args.out.now c.open-begun.new.area c.in-At.ensures.area c.in-At.ensures.answer
+    c.steps.ensures ∙ goes_on c.args.input.now c.args.self.now.area c.args.self.now.out c.open-begun.new.area c.in-At.ensures.area c.in-At.ensures.answer

@@ -4,13 +4,13 @@
 // for each step. The opening is a function of crate session, a step with the text of its line one of crate printing; here they are joined to
 // the input and the output. On standard error it says where the input stops being a session, and what cannot be read or printed.
 
-ghost use Rattle.std.specs.Prelude.{◌≡◌, ◌≤◌, length, take};
+ghost use Rattle.std.specs.Prelude.{◌≡◌, ◌≤◌, ◌<◌, length, take, drop, codes};
 ghost use Rattle.model.specs.Limits.{office, max_session, session_capacity};
 ghost use Rattle.model.specs.Area.{area_length};
 ghost use Rattle.theory.specs.Lengths.{longest_session_report};
 ghost use Rattle.printing.specs.turns.Turns.{buffer_of, size_of};
 ghost use Rattle.printing.specs.whole.Loop.{standing, end_from, session_end};
-ghost use Rattle.sessions.specs.Counts.{IsPrefixLen};
+ghost use Rattle.sessions.specs.Counts.{IsPrefixLen, SaysLine};
 
 use arrayvec::ArrayString;
 use printing::turns::Shown;
@@ -35,7 +35,8 @@ const REASON: usize = 320;
 
 // The text of an error without its number.
 fn words(reason: &str) -> &str
-    ensures { result.now ≡ take (length result.now) reason.now }
+    ensures front { result.now ≡ take (length result.now) reason.now }
+    ensures rest { length result.now < length reason.now → take 11 (drop (length result.now) reason.now) ≡ codes " (os error " }
 {
     match reason.rsplit_once(" (os error ") {
         Some((words, _)) => words,
@@ -71,19 +72,12 @@ impl<O: Print, E: Print> Output<'_, O, E> {
         }
     }
 
-    // Says where the opening is refused, and nothing where it is accepted.
-    fn tell_opening(&self, input: &[u8], begun: Begun) {
-        let mut line = [0u8; session::said::MOST];
-        let n = session::said::of_opening(input, begun, &mut line);
-        let _ = self.stderr.write_all(&line[..n]);
-    }
-
-    // The same of the step at position `at`, where the session stops at it.
-    fn tell_step(&self, input: &[u8], at: usize)
-        requires { at ≤ max_session }
+    // Says what `say` writes to the front of a line, of which it gives the length.
+    fn tell<F: FnOnce(&mut [u8]) -> usize>(&self, say: F)
+        requires { SaysLine F.pre F.post say }
     {
         let mut line = [0u8; session::said::MOST];
-        let n = session::said::of_command(input, at, &mut line);
+        let n = say(&mut line);
         let _ = self.stderr.write_all(&line[..n]);
     }
 }
@@ -157,6 +151,7 @@ impl Buffers {
     {
         let mut at = first;
         let mut kept = None;
+        // a `while`: the position is behind the step that was taken
         while at < input.len() {
             let turn = printing::turns::take_turn(
                 input,
@@ -168,7 +163,8 @@ impl Buffers {
                 &mut self.text,
             );
             output.print(self.shown(turn.shown));
-            output.tell_step(input, at);
+            // where the session stops at the step
+            output.tell(|line| session::said::of_command(input, at, line));
             at = turn.next;
             kept = turn.kept;
         }
@@ -185,7 +181,8 @@ impl Buffers {
         let begun = session::steps::open(input, &mut self.area);
         let n = printing::lines::opening(begun, &mut self.text);
         output.print(&self.text[..n]);
-        output.tell_opening(input, begun);
+        // where the opening is refused
+        output.tell(|line| session::said::of_opening(input, begun, line));
         match begun {
             Begun::Refused(_) => input.len(),
             Begun::At(first) => self.steps(output, input, first),

@@ -25,12 +25,14 @@ module _ (input area out area' : List ℕ) (left : area' ≡ (start input area).
   goes_on answered = sym (ap (end_from input) (leads answered))
 
 pub steps-requires : goal.steps-requires
-steps-requires g c = accepted_short _ _ _ (sym c.in-At.ensures.answer)
+steps-requires g c = accepted_short _ _ _ (sym c.open-begun.ensures.answer ∙ c.in-At.is)
 
 pub returns-in-Refused : goal.returns-in-Refused
 returns-in-Refused g c =
-    ends c.args.input.now c.args.self.now.area c.args.self.now.out c.open-begun.new.area c.in-Refused.ensures.area c.in-Refused.ensures.answer
+    let left = c.open-begun.ensures in
+    ends c.args.input.now c.args.self.now.area c.args.self.now.out c.open-begun.new.area left.area (sym c.in-Refused.is ∙ left.answer)
 
 pub returns-in-At : goal.returns-in-At
 returns-in-At g c =
-    c.steps.ensures ∙ goes_on c.args.input.now c.args.self.now.area c.args.self.now.out c.open-begun.new.area c.in-At.ensures.area c.in-At.ensures.answer
+    let left = c.open-begun.ensures in
+    c.steps.ensures ∙ goes_on c.args.input.now c.args.self.now.area c.args.self.now.out c.open-begun.new.area left.area (sym c.in-At.is ∙ left.answer)

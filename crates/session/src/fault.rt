@@ -7,6 +7,7 @@ ghost use Rattle.session.specs.fault.Fault.{book_fault, opening_fault};
 use crate::steps::LONGEST;
 
 // The position of a session's opening that is refused: the first byte too many, the book's length, or a part of the book.
+#[tactic(auto, unfolding(crate::specs::fault::Fault::opening_fault, crate::specs::fault::Fault::book_fault))]
 pub fn opening_fault(input: &[u8]) -> usize
     ensures { result ≡ opening_fault input.now }
 {
@@ -21,6 +22,7 @@ pub fn opening_fault(input: &[u8]) -> usize
 }
 
 // Where the book of `size` bytes at position `at` is refused: at the front of the session where it runs past the end.
+#[tactic(auto, unfolding(crate::specs::fault::Fault::book_fault))]
 fn book_fault(input: &[u8], at: usize, size: usize) -> usize
     requires { at ≤ length input.now }
     ensures { result ≡ book_fault input.now (Number size at) }

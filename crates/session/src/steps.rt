@@ -55,6 +55,7 @@ pub fn open(input: &[u8], area: &mut [u8]) -> Begun
 }
 
 // Opens the book of `size` bytes at position `at`: 1 where it runs past the end.
+#[tactic(auto, unfolding(crate::specs::steps::Effects::open_book, crate::specs::steps::Effects::not_begun, crate::specs::steps::Effects::begun))]
 fn open_book(input: &[u8], at: usize, size: usize, area: &mut [u8]) -> Begun
     requires { at ≤ length input.now }
     ensures answer { result ≡ (open_book input.now area.old (Number size at)).answer }
@@ -72,6 +73,7 @@ fn open_book(input: &[u8], at: usize, size: usize, area: &mut [u8]) -> Begun
 }
 
 // Reports into the output.
+#[tactic(auto, unfolding(crate::specs::steps::Effects::reported_by))]
 fn report(area: &[u8], out: &mut [u8], next: usize) -> Reply
     ensures answer { result ≡ reported_by (call_report office area.now out.old) next }
     ensures output { out.new ≡ (call_report office area.now out.old).output }
@@ -85,6 +87,7 @@ fn report(area: &[u8], out: &mut [u8], next: usize) -> Reply
 }
 
 // One step of a session, at position `at` of the input: its answer, and what it leaves in the area and in the output.
+#[tactic(auto, unfolding(crate::specs::steps::Effects::step_at, crate::specs::steps::Effects::perform, crate::specs::steps::Effects::still))]
 pub fn step_at(input: &[u8], at: usize, area: &mut [u8], out: &mut [u8]) -> Reply
     ensures answer { result ≡ (step_at input.now area.old out.old at).answer }
     ensures area { area.new ≡ (step_at input.now area.old out.old at).area }

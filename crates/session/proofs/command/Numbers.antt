@@ -60,5 +60,6 @@ module _ (input : List ℕ) where
       go false e = sym (ap asked_numbers (drop_of_length-le input (ltb-false at (length input) e)))
 
   -- so by the reader's answer
-  pub told : (at : ℕ) {c : Command} → c ≡ command_at input at → (c ≡ command_at input at) × (command_numbers c ≡ asked_numbers (drop at input))
-  told at e = (e, ap command_numbers e ∙ asked at)
+  pub told : (at : ℕ) {c : Command} → c ≡ command_at input at
+      → record { command : c ≡ command_at input at; numbers : command_numbers c ≡ asked_numbers (drop at input) }
+  told at e = record { command = e; numbers = ap command_numbers e ∙ asked at }

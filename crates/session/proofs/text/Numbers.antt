@@ -14,7 +14,9 @@ use Rattle.model.specs.Lists.{concat_map}
 use Rattle.model.specs.Report.{number_bytes}
 use Rattle.model.specs.BookBytes.{Parsed, parsed, unparsed, from_read, parse_number}
 use Rattle.book.proofs.reader.Below.{number_of, number-answered}
-use Rattle.runs.proofs.Over.{Laid, laid_none, laid_more, laid-length}
+use Rattle.session.specs.declared.text.Writer.{Writer}
+use Rattle.session.specs.text.Writing.{Room, Puts}
+use Rattle.session.proofs.text.Puts.{puts_none, puts_more}
 use Rattle.session.specs.text.Text.{max_digits, number_most, spaced, following, cons_number, numbers_within, numbers_in}
 use Rattle.session.proofs.text.Digits.{small_short}
 
@@ -147,56 +149,51 @@ pub following_short : (bytes : List ℕ) → length (following (numbers_in bytes
 unfolding numbers_in
 following_short bytes = read_short (length bytes) bytes
 
--- The numbers up to position pos are written from place `at` of `old` on, which gives `text`, and `next` is the place behind them.
-pub record Shown (bytes old : List ℕ) (at : ℕ) (text : List ℕ) (next pos : ℕ) : Type 0 where
+-- The numbers up to position pos are put.
+pub record Shown (bytes : List ℕ) (old now : Writer) (pos : ℕ) : Type 0 where
   pub within : pos ≤ length bytes
   pub written : List ℕ
-  pub laid : Laid old at written text next
+  pub puts : Puts old now written
   pub whole : following (numbers_in bytes) ≡ written ++ following (numbers_in (drop pos bytes))
   pub short : length written ≤ number_most * pos
 
 -- at first none
-pub shown-none : (bytes old : List ℕ) (at : ℕ) → Shown bytes old at old at 0
-shown-none bytes old at =
-    record { within = zero-le; written = []; laid = laid_none old at; whole = refl; short = zero-le }
+pub shown-none : (bytes : List ℕ) (old : Writer) → Shown bytes old old 0
+shown-none bytes old = record { within = zero-le; written = []; puts = puts_none old; whole = refl; short = zero-le }
 
-module _ (bytes old : List ℕ) (at : ℕ) (room : at + number_most * length bytes + max_digits ≤ length old) (text : List ℕ) (next pos : ℕ)
-    (s : Shown bytes old at text next pos) where
-  -- what is written fits
-  fits : at + length s.written ≤ length old
+module _ {bytes : List ℕ} {old now : Writer} {pos : ℕ} (room : Room old (number_most * length bytes + max_digits)) (s : Shown bytes old now pos) where
+  -- what is put fits
+  fits : Room old (length s.written)
   fits = omega (arith, s.short, s.within)
 
-  pub shown-length : length text ≡ length old
-  shown-length = laid-length old at s.written text next fits s.laid
-
   -- there is room for a number that stands at the position
-  pub shown-room : pos < length bytes → next + 1 + max_digits ≤ length text
-  shown-room l = omega (arith, shown-length, s.laid.0, s.short)
+  pub shown-room : pos < length bytes → Room now (1 + max_digits)
+  shown-room l = omega (arith, s.puts.kept, s.puts.next, s.short)
 
   -- one number more
   pub shown-more : {r : Decoded} {n pos' : ℕ} → r ≡ read_at max_groups max_number bytes pos → r ≡ Number n pos'
-      → (text' : List ℕ) (next' : ℕ) → Laid text next (spaced n) text' next' → Shown bytes old at text' next' pos'
-  shown-more {r} {n} {pos'} e q text' next' l =
+      → {now' : Writer} → Puts now now' (spaced n) → Shown bytes old now' pos'
+  shown-more {r} {n} {pos'} e q {now'} p =
       let ahead = number_ahead bytes pos e q in
       let first : numbers_in (drop pos bytes) ≡ n ∷ numbers_in (drop pos' bytes) =
       numbers-first (drop pos bytes) n (drop pos' bytes) (number-answered bytes pos e q) in
       record {
         within = ahead.1;
         written = s.written ++ spaced n;
-        laid = laid_more old at s.written text next fits s.laid (spaced n) text' next' l;
+        puts = puts_more fits s.puts p;
         whole = s.whole ∙ rw (first, following-first n (numbers_in (drop pos' bytes)), append_assoc);
         short = rw length-append (omega (arith, s.short, spaced_short n ahead.2));
       }
 
   -- all of them, where no number stands at the position
-  shown_rest : numbers_in (drop pos bytes) ≡ [] → Laid old at (following (numbers_in bytes)) text next
+  shown_rest : numbers_in (drop pos bytes) ≡ [] → Puts old now (following (numbers_in bytes))
   unfolding following concat_map
-  shown_rest e = let none : following (numbers_in bytes) ≡ s.written = s.whole ∙ rw (e, append-nil) in rw none s.laid
+  shown_rest e = let none : following (numbers_in bytes) ≡ s.written = s.whole ∙ rw (e, append-nil) in rw none s.puts
 
   pub shown_stopped : {r r' : Decoded} {m : ℕ} → r ≡ read_at max_groups max_number bytes pos → r ≡ r' → number_of bytes r' ≡ unparsed m
-      → Laid old at (following (numbers_in bytes)) text next
+      → Puts old now (following (numbers_in bytes))
   shown_stopped e q u = shown_rest (numbers-none (drop pos bytes) _ (number-answered bytes pos e q ∙ u))
 
-  pub shown-all : length bytes ≤ pos → Laid old at (following (numbers_in bytes)) text next
+  pub shown-all : length bytes ≤ pos → Puts old now (following (numbers_in bytes))
   unfolding numbers_in
   shown-all l = shown_rest (ap numbers_in (drop_of_length-le bytes l) ∙ read_none 0)

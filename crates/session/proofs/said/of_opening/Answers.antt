@@ -1,0 +1,16 @@
+-- `said::of_opening` meets its contract: the line of the fault and the refusal, or nothing. Assumes nothing.
+use Rattle.std.proofs.Common.{rules}
+use Rattle.session.specs.said.Said.{opening_said}
+use Rattle.session.proofs.fault.Refused.{fault_within}
+use Rattle.session.proofs.said.of_opening.Goals as goal
+
+pub overflow_cast-opening_fault : goal.overflow_cast-opening_fault
+overflow_cast-opening_fault c = search (rules, fault_within _ c.opening_fault.ensures)
+
+pub returns-in-Refused : goal.returns-in-Refused
+unfolding opening_said
+returns-in-Refused c = rw (c.in-Refused.is, ← c.opening_fault.ensures) c.put_said.ensures
+
+pub returns-in-At : goal.returns-in-At
+unfolding opening_said
+returns-in-At c = rw c.in-At.is (search rules)

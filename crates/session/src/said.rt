@@ -3,43 +3,45 @@
 
 ghost use Rattle.std.specs.Prelude.{◌≡◌, ◌++◌, ◌≤◌, length, drop};
 ghost use Rattle.model.specs.Limits.{max_session};
+ghost use Rattle.refusal.specs.Numbers.{number_of};
 ghost use Rattle.session.specs.command.Commands.{command_at};
 ghost use Rattle.session.specs.said.Said.{words, said_line, said_most, opening_said, command_said};
 
-use crate::command::Command;
-use crate::steps::Begun;
 use crate::text::Writer;
+use refusal::Refusal;
 
 // The most bytes of a line.
 pub const MOST: usize = 144;
 
 // A refusal in words.
-fn words(refusal: u32) -> &'static [u8]
-    ensures { result.now ≡ words refusal }
+fn words(refusal: Refusal) -> &'static [u8]
+    ensures { result.now ≡ words (number_of refusal) }
 {
     match refusal {
-        1 => b"the bytes end too early: within a number, before one, or before the end of the book",
-        2 => b"a number not in shortest form, of more than three bytes, or above 65,535",
-        3 => b"bytes after the last term of the book",
-        4 =>
+        Refusal::Cut =>
+            b"the bytes end too early: within a number, before one, or before the end of the book",
+        Refusal::BadNumber =>
+            b"a number not in shortest form, of more than three bytes, or above 65,535",
+        Refusal::LeftOver => b"bytes after the last term of the book",
+        Refusal::OutOfRange =>
             b"a number of terms, a symbol or a count out of range, or a session of more than 65,536 bytes",
-        5 => b"an argument that is not lower than its term",
-        8 => b"an unknown step",
+        Refusal::NotLower => b"an argument that is not lower than its term",
+        Refusal::NamesNothing => b"an unknown step",
         _ => b"",
     }
 }
 
 // Writes the line of a position and a refusal to the front of `line`, and gives its length.
-fn put_said(line: &mut [u8], position: u32, refusal: u32) -> usize
+fn put_said(line: &mut [u8], position: u32, refusal: Refusal) -> usize
     requires { said_most ≤ length line.old }
-    ensures count { result ≡ length (said_line position refusal) }
-    ensures bytes { line.new ≡ said_line position refusal ++ drop result line.old }
+    ensures count { result ≡ length (said_line position (number_of refusal)) }
+    ensures bytes { line.new ≡ said_line position (number_of refusal) ++ drop result line.old }
 {
     let mut said = Writer { text: line, at: 0 };
     said.put_bytes(b"sessions: byte ");
     said.put_decimal(position);
     said.put_bytes(b": refused with ");
-    said.put_decimal(refusal);
+    said.put_decimal(u32::from(refusal));
     said.put_bytes(b": ");
     said.put_bytes(words(refusal));
     said.end_line();
@@ -47,18 +49,14 @@ fn put_said(line: &mut [u8], position: u32, refusal: u32) -> usize
 }
 
 // Writes what is said of an opening to the front of `line`, and gives its length: 0 where it is accepted.
-pub fn of_opening(input: &[u8], begun: Begun, line: &mut [u8]) -> usize
+pub fn of_opening(input: &[u8], begun: Result<usize, Refusal>, line: &mut [u8]) -> usize
     requires { said_most ≤ length line.old }
     ensures count { result ≡ length (opening_said input.now begun) }
     ensures bytes { line.new ≡ opening_said input.now begun ++ drop result line.old }
 {
     match begun {
-        Begun::Refused(refusal) => put_said(
-            line,
-            crate::fault::opening_fault(input) as u32,
-            refusal,
-        ),
-        Begun::At(_) => 0,
+        Err(refusal) => put_said(line, crate::fault::opening_fault(input) as u32, refusal),
+        Ok(_) => 0,
     }
 }
 
@@ -69,7 +67,7 @@ pub fn of_command(input: &[u8], at: usize, line: &mut [u8]) -> usize
     ensures bytes { line.new ≡ command_said at (command_at input.now at) ++ drop result line.old }
 {
     match crate::command::command_at(input, at) {
-        Command::Stopped(refusal) => put_said(line, at as u32, refusal),
-        Command::Ended | Command::Take(..) | Command::Report(_) => 0,
+        Err(refusal) => put_said(line, at as u32, refusal),
+        Ok(_) => 0,
     }
 }

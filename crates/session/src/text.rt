@@ -50,12 +50,11 @@ impl Writer<'_> {
         // a `while`: the position is behind the number that was read
         while pos < bytes.len() {
             match leb128::read(bytes, pos) {
-                leb128::Decoded::Number { value, next } => {
-                    self.put_spaced(value);
-                    pos = next;
+                Ok(number) => {
+                    self.put_spaced(number.value);
+                    pos = number.next;
                 }
-                leb128::Decoded::Cut => return,
-                leb128::Decoded::Invalid => return,
+                Err(_) => return,
             }
         }
     }

@@ -7,13 +7,14 @@ use native.Mathlib.Omega.{arith}
 use lib.ListN.{length, get_or, drop, length-append, length-drop, drop_of_length-le}
 use Rattle.leb128.specs.Number.{max_groups, max_number, Read, number, cut, invalid, read, read_groups, at_most, write}
 use Rattle.leb128.specs.Answer.{placed, read_at}
-use Rattle.leb128.specs.declared.Decoded.{Decoded}
-use Rattle.leb128.specs.declared.Decoded.TheVariants.{Number, Cut, Invalid}
+use Rattle.leb128.specs.declared.Number.{Number}
+use Rattle.leb128.specs.declared.NumberError.{NumberError}
+use Rattle.std.specs.Prelude.{Result, Ok, Err}
 use Rattle.leb128.proofs.Laws.{reads_what_is-written, within_the_limit, rest_is_a_tail}
 use Rattle.model.specs.Lists.{concat_map}
 use Rattle.model.specs.Report.{number_bytes}
 use Rattle.model.specs.BookBytes.{Parsed, parsed, unparsed, from_read, parse_number}
-use Rattle.book.proofs.reader.Below.{number_of, number-answered}
+use Rattle.book.proofs.reader.Below.{number-answered}
 use Rattle.session.specs.declared.text.Writer.{Writer}
 use Rattle.session.specs.text.Writing.{Room, Puts}
 use Rattle.session.proofs.text.Puts.{puts_none, puts_more}
@@ -21,10 +22,9 @@ use Rattle.session.specs.text.Text.{max_digits, number_most, spaced, following, 
 use Rattle.session.proofs.text.Digits.{small_short}
 
 -- A NUMBER AT A POSITION ends behind it, within the bytes, and is within the limit.
-abbrev pub Ahead : ℕ → ℕ → Decoded → Type 0
-Ahead at size (Number n next) = (at < next) × (next ≤ size) × (n ≤ max_number)
-Ahead at size Cut = Unit {0}
-Ahead at size Invalid = Unit {0}
+abbrev pub Ahead : ℕ → ℕ → Result Number NumberError → Type 0
+Ahead at size (Ok r) = (at < r.next) × (r.next ≤ size) × (r.value ≤ max_number)
+Ahead at size (Err e) = Unit {0}
 
 pub read_ahead : (bytes : List ℕ) (at : ℕ) → Ahead at (length bytes) (read_at max_groups max_number bytes at)
 unfolding read_at placed
@@ -39,9 +39,9 @@ read_ahead bytes at = go (read max_groups max_number (drop at bytes)) refl
     go invalid e = tt
 
 -- so by the reader's answer
-pub number_ahead : (bytes : List ℕ) (at : ℕ) {r : Decoded} {n next : ℕ} → r ≡ read_at max_groups max_number bytes at → r ≡ Number n next
-    → (at < next) × (next ≤ length bytes) × (n ≤ max_number)
-number_ahead bytes at e q = rw (sym e ∙ q) at (read_ahead bytes at)
+pub number_ahead : (bytes : List ℕ) (at : ℕ) {x : Number} → Ok x ≡ read_at max_groups max_number bytes at
+    → (at < x.next) × (x.next ≤ length bytes) × (x.value ≤ max_number)
+number_ahead bytes at e = rw (sym e) at (read_ahead bytes at)
 
 -- ALL NUMBERS. No bytes hold no number.
 read_none : (k : ℕ) → numbers_within k [] ≡ []
@@ -171,12 +171,14 @@ module _ {bytes : List ℕ} {old now : Writer} {pos : ℕ} (room : Room old (num
   shown-room l = omega (arith, s.puts.kept, s.puts.next, s.short)
 
   -- one number more
-  pub shown-more : {r : Decoded} {n pos' : ℕ} → r ≡ read_at max_groups max_number bytes pos → r ≡ Number n pos'
-      → {now' : Writer} → Puts now now' (spaced n) → Shown bytes old now' pos'
-  shown-more {r} {n} {pos'} e q {now'} p =
-      let ahead = number_ahead bytes pos e q in
+  pub shown-more : {x : Number} → Ok x ≡ read_at max_groups max_number bytes pos
+      → {now' : Writer} → Puts now now' (spaced x.value) → Shown bytes old now' x.next
+  shown-more {x} e {now'} p =
+      let n : ℕ = x.value in
+      let pos' : ℕ = x.next in
+      let ahead = number_ahead bytes pos e in
       let first : numbers_in (drop pos bytes) ≡ n ∷ numbers_in (drop pos' bytes) =
-      numbers-first (drop pos bytes) n (drop pos' bytes) (number-answered bytes pos e q) in
+      numbers-first (drop pos bytes) n (drop pos' bytes) (number-answered bytes pos e) in
       record {
         within = ahead.1;
         written = s.written ++ spaced n;
@@ -190,9 +192,8 @@ module _ {bytes : List ℕ} {old now : Writer} {pos : ℕ} (room : Room old (num
   unfolding following concat_map
   shown_rest e = let none : following (numbers_in bytes) ≡ s.written = s.whole ∙ rw (e, append-nil) in rw none s.puts
 
-  pub shown_stopped : {r r' : Decoded} {m : ℕ} → r ≡ read_at max_groups max_number bytes pos → r ≡ r' → number_of bytes r' ≡ unparsed m
-      → Puts old now (following (numbers_in bytes))
-  shown_stopped e q u = shown_rest (numbers-none (drop pos bytes) _ (number-answered bytes pos e q ∙ u))
+  pub shown_stopped : {x : NumberError} → Err x ≡ read_at max_groups max_number bytes pos → Puts old now (following (numbers_in bytes))
+  shown_stopped e = shown_rest (numbers-none (drop pos bytes) _ (number-answered bytes pos e))
 
   pub shown-all : length bytes ≤ pos → Puts old now (following (numbers_in bytes))
   unfolding numbers_in

@@ -3,10 +3,10 @@ use Rattle.std.proofs.Common.{rules}
 use Rattle.session.specs.said.Said.{command_said}
 use Rattle.session.proofs.said.of_command.Goals as goal
 
-pub returns-in-Ended : goal.returns-in-Ended
+pub returns-in-Ok : goal.returns-in-Ok
 unfolding command_said
-returns-in-Ended c = rw (← c.command_at.ensures.command) (search rules)
+returns-in-Ok c = rw (← c.command_at.ensures.command) (search rules)
 
-pub returns-in-Stopped : goal.returns-in-Stopped
+pub returns-in-Err : goal.returns-in-Err
 unfolding command_said
-returns-in-Stopped c = rw (← c.command_at.ensures.command, c.in-Stopped.is) c.put_said.ensures
+returns-in-Err c = rw (← c.command_at.ensures.command, c.in-Err.is) c.put_said.ensures

@@ -7,10 +7,10 @@ use Rattle.session.proofs.said.of_opening.Goals as goal
 pub overflow_cast-opening_fault : goal.overflow_cast-opening_fault
 overflow_cast-opening_fault c = search (rules, fault_within _ c.opening_fault.ensures)
 
-pub returns-in-Refused : goal.returns-in-Refused
+pub returns-in-Err : goal.returns-in-Err
 unfolding opening_said
-returns-in-Refused c = rw (c.in-Refused.is, ← c.opening_fault.ensures) c.put_said.ensures
+returns-in-Err c = rw (c.in-Err.is, ← c.opening_fault.ensures) c.put_said.ensures
 
-pub returns-in-At : goal.returns-in-At
+pub returns-in-Ok : goal.returns-in-Ok
 unfolding opening_said
-returns-in-At c = rw c.in-At.is (search rules)
+returns-in-Ok c = rw c.in-Ok.is (search rules)

@@ -4,29 +4,29 @@ use Rattle.session.specs.said.Said.{ascii, words}
 use Rattle.session.proofs.said.Saying.{no_words}
 use Rattle.session.proofs.said.words.Goals as goal
 
-pub returns-in-1 : goal.returns-in-1
+pub returns-in-Cut : goal.returns-in-Cut
 unfolding words ascii
-returns-in-1 c = rw c.in-1.is refl
+returns-in-Cut c = rw c.in-Cut.is refl
 
-pub returns-in-2 : goal.returns-in-2
+pub returns-in-BadNumber : goal.returns-in-BadNumber
 unfolding words ascii
-returns-in-2 c = rw c.in-2.is refl
+returns-in-BadNumber c = rw c.in-BadNumber.is refl
 
-pub returns-in-3 : goal.returns-in-3
+pub returns-in-LeftOver : goal.returns-in-LeftOver
 unfolding words ascii
-returns-in-3 c = rw c.in-3.is refl
+returns-in-LeftOver c = rw c.in-LeftOver.is refl
 
-pub returns-in-4 : goal.returns-in-4
+pub returns-in-OutOfRange : goal.returns-in-OutOfRange
 unfolding words ascii
-returns-in-4 c = rw c.in-4.is refl
+returns-in-OutOfRange c = rw c.in-OutOfRange.is refl
 
-pub returns-in-5 : goal.returns-in-5
+pub returns-in-NotLower : goal.returns-in-NotLower
 unfolding words ascii
-returns-in-5 c = rw c.in-5.is refl
+returns-in-NotLower c = rw c.in-NotLower.is refl
 
-pub returns-in-8 : goal.returns-in-8
+pub returns-in-NamesNothing : goal.returns-in-NamesNothing
 unfolding words ascii
-returns-in-8 c = rw c.in-8.is refl
+returns-in-NamesNothing c = rw c.in-NamesNothing.is refl
 
 pub returns-in_default : goal.returns-in_default
 returns-in_default c = search (rules, no_words)

@@ -8,7 +8,6 @@ ghost use Rattle.printing.specs.turns.Turns.{printed, Front, buffer_of, size_of,
 
 use session::command::Command;
 use session::steps::Reply;
-use step::answer::StepAnswer;
 
 // Where the text of a turn stands, and its size: a step's line in one buffer, a report in another.
 #[derive(Clone, Copy)]
@@ -58,7 +57,7 @@ pub fn take_turn(
     ensures printed { Front (buffer_of report.new text.new result.shown) (size_of result.shown) (printed (step_at input.now area.old out.old at)) }
     ensures kept { KeptReport area.new out.new report.new result.kept }
 {
-    if let Command::Report(next) = session::command::command_at(input, at) {
+    if let Ok(Command::Report(next)) = session::command::command_at(input, at) {
         let size = match kept {
             Some(size) => size,
             None => {
@@ -78,10 +77,7 @@ pub fn take_turn(
         next: goes_on(reply, input.len()),
         shown: Shown::Line(size),
         kept: match reply {
-            Reply::Answered {
-                answer: StepAnswer::Refused(_),
-                ..
-            } => kept,
+            Reply::Answered { answer: Err(_), .. } => kept,
             _ => None,
         },
     }

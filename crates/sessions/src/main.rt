@@ -14,7 +14,6 @@ ghost use Rattle.sessions.specs.Counts.{IsPrefixLen, SaysLine};
 
 use arrayvec::ArrayString;
 use printing::turns::Shown;
-use session::steps::Begun;
 use std::fmt::Write;
 use std::io;
 use std::io::{Print, Read};
@@ -184,8 +183,8 @@ impl Buffers {
         // where the opening is refused
         output.tell(|line| session::said::of_opening(input, begun, line));
         match begun {
-            Begun::Refused(_) => input.len(),
-            Begun::At(first) => self.steps(output, input, first),
+            Ok(first) => self.steps(output, input, first),
+            Err(_) => input.len(),
         }
     }
 }

@@ -13,12 +13,13 @@ use Rattle.model.specs.Call.{Outcome, call_report}
 use Rattle.theory.proofs.Theorems.{demand_1}
 use Rattle.step.specs.declared.answer.Step.{Step}
 use Rattle.step.specs.declared.answer.Step.TheVariants.{Add, Bind}
-use Rattle.step.specs.declared.answer.StepAnswer.{StepAnswer}
-use Rattle.step.specs.declared.answer.StepAnswer.TheVariants.{Refused}
+use Rattle.refusal.specs.declared.Refusal.{Refusal}
+use Rattle.refusal.specs.Numbers.{refusal_of}
+use Rattle.step.specs.declared.answer.Accepted.{Accepted}
 use Rattle.step.specs.answer.Stepped.{accepted_as}
 use Rattle.calls.specs.Called.{call_step, answer_to}
 use Rattle.session.specs.declared.command.Command.{Command}
-use Rattle.session.specs.declared.command.Command.TheVariants.{Ended as NoMore, Stopped as Stop, Take, Report}
+use Rattle.session.specs.declared.command.Command.TheVariants.{Ended as NoMore, Take, Report}
 use Rattle.session.specs.command.Commands.{command_at}
 use Rattle.session.specs.text.Text.{lines_text}
 use Rattle.session.specs.declared.steps.Reply.{Reply}
@@ -26,7 +27,7 @@ use Rattle.session.specs.declared.steps.Reply.TheVariants.{Answered, NotReported
 use Rattle.session.specs.steps.Effects.{Effect, still, perform, reported_by, step_at, next_or}
 use Rattle.session.proofs.steps.Stepping.{by_command, Takes}
 use Rattle.session.specs.steps.Lines.{lines}
-use Rattle.std.specs.Prelude.{Option, None, Some}
+use Rattle.std.specs.Prelude.{Option, None, Some, Result, Ok, Err}
 use Rattle.printing.specs.declared.turns.Shown.{Shown}
 use Rattle.printing.specs.declared.turns.Shown.TheVariants.{Line, Report as ShownReport}
 use Rattle.printing.specs.turns.Turns.{printed, Front, buffer_of, size_of, KeptReport}
@@ -49,7 +50,7 @@ shows s {answer} {area'} {out'} t buffer end n f =
 
 -- REPORTS. The position of a report is where the session goes on, and no part of what is printed.
 module _ (o : Outcome) (next over : ℕ) where
-  goes_at : (t : Bool) (accepted : ℕ) (refusal : ℕ) → next_or over (cond t (Reported accepted next) (NotReported refusal next)) ≡ next
+  goes_at : (t : Bool) (accepted : ℕ) (refusal : Refusal) → next_or over (cond t (Reported accepted next) (NotReported refusal next)) ≡ next
   unfolding next_or
   goes_at true accepted refusal = refl
   goes_at false accepted refusal = refl
@@ -58,7 +59,7 @@ module _ (o : Outcome) (next over : ℕ) where
   unfolding reported_by
   report_goes_on = goes_at (eqb o.refusal 0) _ _
 
-  line_at : (out : List ℕ) (next' : ℕ) (t : Bool) (accepted : ℕ) (refusal : ℕ)
+  line_at : (out : List ℕ) (next' : ℕ) (t : Bool) (accepted : ℕ) (refusal : Refusal)
       → lines (cond t (Reported accepted next) (NotReported refusal next)) out ≡ lines (cond t (Reported accepted next') (NotReported refusal next')) out
   unfolding lines
   line_at out next' true accepted refusal = refl
@@ -70,26 +71,21 @@ module _ (o : Outcome) (next over : ℕ) where
 
 module _ (area out : List ℕ) where
   -- a report leaves the area
-  report-area : (next : ℕ) → (perform area out (Report next)).area ≡ area
+  report-area : (next : ℕ) → (perform area out (Ok (Report next))).area ≡ area
   unfolding perform
   report-area next = (demand_1.reporting office area out).1
 
   -- after a report its text can be kept
-  pub keeps_report : (next n : ℕ) (kept : List ℕ) → let s = perform area out (Report next) in Front kept n (printed s)
+  pub keeps_report : (next n : ℕ) (kept : List ℕ) → let s = perform area out (Ok (Report next)) in Front kept n (printed s)
       → KeptReport s.area s.output kept (Some n)
   unfolding perform printed
   keeps_report next n kept f next' =
       rw (report-area next, report_again area out) (refl, rw (report-line (call_report office area out) next' 0 _ next) f)
 
 -- REFUSED STEPS leave the area. The refusal is one.
-no_refusal : (step : Step) (ns : List ℕ) {k : ℕ} → accepted_as step ns ≡ Refused k → ⊥
-unfolding accepted_as
-no_refusal (Add l r) ns e = cc
-no_refusal (Bind v t) ns e = cc
-
-refused_by : (step : Step) (o : Outcome) {k : ℕ} (t : Bool) → eqb o.refusal 0 ≡ t
-    → cond t (accepted_as step o.numbers) (Refused o.refusal) ≡ Refused k → o.refusal ≡ 0 → ⊥
-refused_by step o true e r = absurd (no_refusal step o.numbers r)
+refused_by : (step : Step) (o : Outcome) {k : Refusal} (t : Bool) → eqb o.refusal 0 ≡ t
+    → cond t (Ok (accepted_as step o.numbers)) (Err (refusal_of o.refusal)) ≡ Err k → o.refusal ≡ 0 → ⊥
+refused_by step o true e r = cc
 refused_by step o false e r = eqb-false o.refusal 0 e
 
 call_leaves : (step : Step) (area : List ℕ) → ((call_step office step area).refusal ≡ 0 → ⊥) → (call_step office step area).area ≡ area
@@ -102,19 +98,19 @@ abbrev Leaves : List ℕ → List ℕ → Effect → Type 0
 Leaves area out s = (s.area ≡ area) × (s.output ≡ out)
 
 -- a report answers no step
-no_answer : (t : Bool) (length refusal next : ℕ) {next' : ℕ} {a : StepAnswer} → cond t (Reported length next) (NotReported refusal next) ≡ Answered a next' → ⊥
+no_answer : (t : Bool) (length : ℕ) (refusal : Refusal) (next : ℕ) {next' : ℕ} {a : Result Accepted Refusal} → cond t (Reported length next) (NotReported refusal next) ≡ Answered a next' → ⊥
 no_answer true length refusal next e = cc
 no_answer false length refusal next e = cc
 
-refused_leaves : (area out : List ℕ) (q : Command) {k next : ℕ} → (perform area out q).answer ≡ Answered (Refused k) next → Leaves area out (perform area out q)
+refused_leaves : (area out : List ℕ) (q : Result Command Refusal) {k : Refusal} {next : ℕ} → (perform area out q).answer ≡ Answered (Err k) next → Leaves area out (perform area out q)
 unfolding perform still reported_by answer_to
-refused_leaves area out NoMore e = (refl, refl)
-refused_leaves area out (Stop n) e = (refl, refl)
-refused_leaves area out (Take step next) {k} e =
+refused_leaves area out (Ok NoMore) e = (refl, refl)
+refused_leaves area out (Err r) e = (refl, refl)
+refused_leaves area out (Ok (Take step next)) {k} e =
     let o = call_step office step area in
-    let refused : cond (eqb o.refusal 0) (accepted_as step o.numbers) (Refused o.refusal) ≡ Refused k = cc in
+    let refused : cond (eqb o.refusal 0) (Ok (accepted_as step o.numbers)) (Err (refusal_of o.refusal)) ≡ Err k = cc in
     (call_leaves step area (refused_by step o (eqb o.refusal 0) refl refused), refl)
-refused_leaves area out (Report next) e = absurd (no_answer (eqb (call_report office area out).refusal 0) _ _ next e)
+refused_leaves area out (Ok (Report next)) e = absurd (no_answer (eqb (call_report office area out).refusal 0) _ _ next e)
 
 -- THE RETURNS. A turn that leaves area and output, goes on at `next`, shows a text of one of the two buffers, and keeps a report.
 abbrev Turned : (area' out' report text : List ℕ) (next : ℕ) (shown : Shown) (kept : Option ℕ) (over : ℕ) (s : Effect) → Type 0
@@ -128,7 +124,7 @@ Turned area' out' report text next' shown kept' over s = record {
 
 module _ (input area out : List ℕ) (at : ℕ) where
   -- by the step s that was asked for
-  module _ {q : Command} (e : q ≡ command_at input at) {next : ℕ} (h : q ≡ Report next) (report text : List ℕ) where
+  module _ {q : Result Command Refusal} (e : q ≡ command_at input at) {next : ℕ} (h : q ≡ Ok (Report next)) (report text : List ℕ) where
     -- a report that is kept
     pub report_kept : {kept : Option ℕ} → KeptReport area out report kept → {n : ℕ} → kept ≡ Some n
         → Turned area out report text next (ShownReport n) (Some n) (length input) (step_at input area out at)
@@ -174,7 +170,7 @@ module _ (input area out : List ℕ) (at : ℕ) where
     }
 
     -- refused, it keeps what was kept
-    pub step_refused : {k after : ℕ} → answer ≡ Answered (Refused k) after → (kept : Option ℕ) → KeptReport area out report kept
+    pub step_refused : {k : Refusal} {after : ℕ} → answer ≡ Answered (Err k) after → (kept : Option ℕ) → KeptReport area out report kept
         → Turned area' out' report end next (Line size) kept (length input) (step_at input area out at)
     unfolding step_at
     step_refused h kept k =

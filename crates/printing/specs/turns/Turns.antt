@@ -1,6 +1,6 @@
 -- A turn of a session: a step and the text that it prints, where the text of a report is kept for the next report (document 01,
 -- "Sessions"). Assumes nothing: these are definitions.
-use Rattle.std.specs.Prelude.{◌≡◌, List, ℕ, ◌≤◌, length, take, Option, None, Some}
+use Rattle.std.specs.Prelude.{◌≡◌, List, ℕ, ◌≤◌, length, take, Option, None, Some, Ok}
 use Rattle.session.specs.declared.command.Command.TheVariants.{Report as AskReport}
 use Rattle.session.specs.text.Text.{lines_text}
 use Rattle.session.specs.steps.Effects.{Effect, perform}
@@ -29,4 +29,4 @@ size_of (Report n) = n
 -- of the buffer.
 abbrev pub KeptReport : List ℕ → List ℕ → List ℕ → Option ℕ → Type 0
 KeptReport area out kept None = Unit {0}
-KeptReport area out kept (Some n) = (next : ℕ) → let s = perform area out (AskReport next) in (s.output ≡ out) × Front kept n (printed s)
+KeptReport area out kept (Some n) = (next : ℕ) → let s = perform area out (Ok (AskReport next)) in (s.output ≡ out) × Front kept n (printed s)

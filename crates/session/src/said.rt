@@ -14,6 +14,7 @@ use refusal::Refusal;
 pub const MOST: usize = 144;
 
 // A refusal in words.
+#[tactic(auto, using(crate::proofs::said::Saying::no_words), unfolding(crate::specs::said::Said::words, crate::specs::said::Said::ascii))]
 fn words(refusal: Refusal) -> &'static [u8]
     ensures { result.now ≡ words (number_of refusal) }
 {

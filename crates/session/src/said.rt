@@ -50,6 +50,7 @@ fn put_said(line: &mut [u8], position: u32, refusal: Refusal) -> usize
 }
 
 // Writes what is said of an opening to the front of `line`, and gives its length: 0 where it is accepted.
+#[tactic(auto, unfolding(crate::specs::said::Said::opening_said))]
 pub fn of_opening(input: &[u8], begun: Result<usize, Refusal>, line: &mut [u8]) -> usize
     requires { said_most ≤ length line.old }
     ensures count { result ≡ length (opening_said input.now begun) }
@@ -62,6 +63,7 @@ pub fn of_opening(input: &[u8], begun: Result<usize, Refusal>, line: &mut [u8]) 
 }
 
 // Writes what is said of the command at position `at` to the front of `line`, and gives its length: 0 where the session does not stop at it.
+#[tactic(auto, unfolding(crate::specs::said::Said::command_said))]
 pub fn of_command(input: &[u8], at: usize, line: &mut [u8]) -> usize
     requires { (at ≤ max_session) × (said_most ≤ length line.old) }
     ensures count { result ≡ length (command_said at (command_at input.now at)) }

@@ -72,7 +72,7 @@ fn report(area: &[u8], out: &mut [u8], next: usize) -> Reply
 }
 
 // One step of a session, at position `at` of the input: its answer, and what it leaves in the area and in the output.
-#[tactic(auto, unfolding(crate::specs::steps::Effects::step_at, crate::specs::steps::Effects::perform, crate::specs::steps::Effects::still))]
+#[tactic(auto, using(crate::proofs::steps::Stepping::lines_told, crate::proofs::steps::Stepping::report_area), unfolding(crate::specs::steps::Effects::step_at, crate::specs::steps::Effects::perform, crate::specs::steps::Effects::still))]
 pub fn step_at(input: &[u8], at: usize, area: &mut [u8], out: &mut [u8]) -> Reply
     ensures answer { result ≡ (step_at input.now area.old out.old at).answer }
     ensures area { area.new ≡ (step_at input.now area.old out.old at).area }

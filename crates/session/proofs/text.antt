@@ -1,4 +1,4 @@
 pub mod Digits
+pub mod Puts
 pub mod Numbers
 pub mod Lines
-pub mod Parts

@@ -3,6 +3,7 @@
 ghost use Rattle.std.specs.Prelude.{◌≡◌, drop};
 ghost use Rattle.session.specs.command.Commands.{command_numbers, asked_numbers, by_number, command_at};
 
+use refusal::Refusal;
 use step::answer::Step;
 
 // A command, with the position after it.
@@ -10,61 +11,44 @@ use step::answer::Step;
 pub enum Command {
     // the input has ended
     Ended,
-    // a bad or cut number, or an unknown step
-    Stopped(u32),
     // a step is to be taken
     Take(Step, usize),
     // a report is to be written
     Report(usize),
 }
 
-// The command numbered `n`, whose other numbers begin at position `at`.
-fn by_number(input: &[u8], n: u32, at: usize) -> Command
+// The command numbered `n`, whose other numbers begin at position `at`; or the refusal of a number that is bad or cut, and 8 for an
+// unknown step.
+fn by_number(input: &[u8], n: u32, at: usize) -> Result<Command, Refusal>
     ensures { result ≡ by_number input.now n at }
 {
     if n == 3 {
-        return Command::Report(at);
+        return Ok(Command::Report(at));
     }
     if n == 0 {
-        return Command::Stopped(8);
+        return Err(Refusal::NamesNothing);
     }
     if 3 < n {
-        return Command::Stopped(8);
+        return Err(Refusal::NamesNothing);
     }
-    match leb128::read(input, at) {
-        leb128::Decoded::Number {
-            value,
-            next: behind,
-        } => match leb128::read(input, behind) {
-            leb128::Decoded::Number {
-                value: second,
-                next,
-            } => {
-                if n == 1 {
-                    Command::Take(Step::Add(value, second), next)
-                } else {
-                    Command::Take(Step::Bind(value, second), next)
-                }
-            }
-            leb128::Decoded::Cut => Command::Stopped(1),
-            leb128::Decoded::Invalid => Command::Stopped(2),
-        },
-        leb128::Decoded::Cut => Command::Stopped(1),
-        leb128::Decoded::Invalid => Command::Stopped(2),
-    }
+    let first = leb128::read(input, at)?;
+    let second = leb128::read(input, first.next)?;
+    let step = if n == 1 {
+        Step::Add(first.value, second.value)
+    } else {
+        Step::Bind(first.value, second.value)
+    };
+    Ok(Command::Take(step, second.next))
 }
 
-// The command at position `at` of the input.
-pub fn command_at(input: &[u8], at: usize) -> Command
+// The command at position `at` of the input, or the refusal that stops the session there.
+pub fn command_at(input: &[u8], at: usize) -> Result<Command, Refusal>
     ensures command { result ≡ command_at input.now at }
     ensures numbers { command_numbers result ≡ asked_numbers (drop at input.now) }
 {
     if input.len() <= at {
-        return Command::Ended;
+        return Ok(Command::Ended);
     }
-    match leb128::read(input, at) {
-        leb128::Decoded::Number { value, next } => by_number(input, value, next),
-        leb128::Decoded::Cut => Command::Stopped(1),
-        leb128::Decoded::Invalid => Command::Stopped(2),
-    }
+    let number = leb128::read(input, at)?;
+    by_number(input, number.value, number.next)
 }

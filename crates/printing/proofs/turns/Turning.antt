@@ -13,21 +13,24 @@ use Rattle.model.specs.Call.{Outcome, call_report}
 use Rattle.theory.proofs.Theorems.{demand_1}
 use Rattle.step.specs.declared.answer.Step.{Step}
 use Rattle.step.specs.declared.answer.Step.TheVariants.{Add, Bind}
-use Rattle.step.specs.declared.answer.StepAnswer.{StepAnswer}
-use Rattle.step.specs.declared.answer.StepAnswer.TheVariants.{Refused}
-use Rattle.step.specs.answer.Stepped.{refusal_number, accepted_as}
-use Rattle.calls.proofs.Outcomes.{accepted-refusal}
+use Rattle.refusal.specs.declared.Refusal.{Refusal}
+use Rattle.refusal.specs.Numbers.{refusal_of}
+use Rattle.step.specs.declared.answer.Accepted.{Accepted}
+use Rattle.step.specs.answer.Stepped.{accepted_as}
 use Rattle.calls.specs.Called.{call_step, answer_to}
 use Rattle.session.specs.declared.command.Command.{Command}
-use Rattle.session.specs.declared.command.Command.TheVariants.{Ended as NoMore, Stopped as Stop, Take, Report}
+use Rattle.session.specs.declared.command.Command.TheVariants.{Ended as NoMore, Take, Report}
 use Rattle.session.specs.command.Commands.{command_at}
 use Rattle.session.specs.text.Text.{lines_text}
 use Rattle.session.specs.declared.steps.Reply.{Reply}
-use Rattle.session.specs.declared.steps.Reply.TheVariants.{Ended, Stopped, Answered, NotReported, Reported}
+use Rattle.session.specs.declared.steps.Reply.TheVariants.{Answered, NotReported, Reported}
 use Rattle.session.specs.steps.Effects.{Effect, still, perform, reported_by, step_at, next_or}
 use Rattle.session.proofs.steps.Stepping.{by_command, Takes}
 use Rattle.session.specs.steps.Lines.{lines}
-use Rattle.printing.specs.turns.Turns.{printed, Front, KeptReport}
+use Rattle.std.specs.Prelude.{Option, None, Some, Result, Ok, Err}
+use Rattle.printing.specs.declared.turns.Shown.{Shown}
+use Rattle.printing.specs.declared.turns.Shown.TheVariants.{Line, Report as ShownReport}
+use Rattle.printing.specs.turns.Turns.{printed, Front, buffer_of, size_of, KeptReport}
 use Rattle.printing.proofs.turns.Again.{report_again}
 
 -- TEXT. The line of an answer goes to the front of a buffer, as module lines has it.
@@ -47,7 +50,7 @@ shows s {answer} {area'} {out'} t buffer end n f =
 
 -- REPORTS. The position of a report is where the session goes on, and no part of what is printed.
 module _ (o : Outcome) (next over : ℕ) where
-  goes_at : (t : Bool) (accepted : ℕ) (refusal : ℕ) → next_or over (cond t (Reported accepted next) (NotReported refusal next)) ≡ next
+  goes_at : (t : Bool) (accepted : ℕ) (refusal : Refusal) → next_or over (cond t (Reported accepted next) (NotReported refusal next)) ≡ next
   unfolding next_or
   goes_at true accepted refusal = refl
   goes_at false accepted refusal = refl
@@ -56,7 +59,7 @@ module _ (o : Outcome) (next over : ℕ) where
   unfolding reported_by
   report_goes_on = goes_at (eqb o.refusal 0) _ _
 
-  line_at : (out : List ℕ) (next' : ℕ) (t : Bool) (accepted : ℕ) (refusal : ℕ)
+  line_at : (out : List ℕ) (next' : ℕ) (t : Bool) (accepted : ℕ) (refusal : Refusal)
       → lines (cond t (Reported accepted next) (NotReported refusal next)) out ≡ lines (cond t (Reported accepted next') (NotReported refusal next')) out
   unfolding lines
   line_at out next' true accepted refusal = refl
@@ -68,21 +71,21 @@ module _ (o : Outcome) (next over : ℕ) where
 
 module _ (area out : List ℕ) where
   -- a report leaves the area
-  report-area : (next : ℕ) → (perform area out (Report next)).area ≡ area
+  report-area : (next : ℕ) → (perform area out (Ok (Report next))).area ≡ area
   unfolding perform
   report-area next = (demand_1.reporting office area out).1
 
   -- after a report its text can be kept
-  pub keeps_report : (next n : ℕ) (kept : List ℕ) → let s = perform area out (Report next) in Front kept n (printed s)
-      → KeptReport s.area s.output kept n
+  pub keeps_report : (next n : ℕ) (kept : List ℕ) → let s = perform area out (Ok (Report next)) in Front kept n (printed s)
+      → KeptReport s.area s.output kept (Some n)
   unfolding perform printed
-  keeps_report next n kept f h next' =
+  keeps_report next n kept f next' =
       rw (report-area next, report_again area out) (refl, rw (report-line (call_report office area out) next' 0 _ next) f)
 
 -- REFUSED STEPS leave the area. The refusal is one.
-refused_by : (step : Step) (o : Outcome) (t : Bool) → eqb o.refusal 0 ≡ t
-    → (refusal_number (cond t (accepted_as step o.numbers) (Refused o.refusal)) ≡ 0 → ⊥) → o.refusal ≡ 0 → ⊥
-refused_by step o true e r = absurd (r (accepted-refusal step o.numbers))
+refused_by : (step : Step) (o : Outcome) {k : Refusal} (t : Bool) → eqb o.refusal 0 ≡ t
+    → cond t (Ok (accepted_as step o.numbers)) (Err (refusal_of o.refusal)) ≡ Err k → o.refusal ≡ 0 → ⊥
+refused_by step o true e r = cc
 refused_by step o false e r = eqb-false o.refusal 0 e
 
 call_leaves : (step : Step) (area : List ℕ) → ((call_step office step area).refusal ≡ 0 → ⊥) → (call_step office step area).area ≡ area
@@ -94,80 +97,88 @@ call_leaves (Bind v t) area h = (demand_1.fixing office area v t).0.area-stays h
 abbrev Leaves : List ℕ → List ℕ → Effect → Type 0
 Leaves area out s = (s.area ≡ area) × (s.output ≡ out)
 
--- the answer in a reply
-unfoldable answer_in : Reply → StepAnswer
-answer_in Ended = Refused 0
-answer_in (Stopped n) = Refused 0
-answer_in (Answered a next) = a
-answer_in (NotReported n next) = Refused 0
-answer_in (Reported n next) = Refused 0
+-- a report answers no step
+no_answer : (t : Bool) (length : ℕ) (refusal : Refusal) (next : ℕ) {next' : ℕ} {a : Result Accepted Refusal} → cond t (Reported length next) (NotReported refusal next) ≡ Answered a next' → ⊥
+no_answer true length refusal next e = cc
+no_answer false length refusal next e = cc
 
-no_answer : (t : Bool) (length refusal next : ℕ) → answer_in (cond t (Reported length next) (NotReported refusal next)) ≡ Refused 0
-unfolding answer_in
-no_answer true length refusal next = refl
-no_answer false length refusal next = refl
-
-refused_leaves : (area out : List ℕ) (q : Command) {a : StepAnswer} {next : ℕ} → (perform area out q).answer ≡ Answered a next
-    → (refusal_number a ≡ 0 → ⊥) → Leaves area out (perform area out q)
-unfolding perform still reported_by answer_to answer_in
-refused_leaves area out NoMore e h = (refl, refl)
-refused_leaves area out (Stop n) e h = (refl, refl)
-refused_leaves area out (Take step next) e h =
+refused_leaves : (area out : List ℕ) (q : Result Command Refusal) {k : Refusal} {next : ℕ} → (perform area out q).answer ≡ Answered (Err k) next → Leaves area out (perform area out q)
+unfolding perform still reported_by answer_to
+refused_leaves area out (Ok NoMore) e = (refl, refl)
+refused_leaves area out (Err r) e = (refl, refl)
+refused_leaves area out (Ok (Take step next)) {k} e =
     let o = call_step office step area in
-    let case : answer_to step o ≡ _ = ap answer_in e in
-    (call_leaves step area (refused_by step o (eqb o.refusal 0) refl (rw case h)), refl)
-refused_leaves area out (Report next) e h =
-    absurd (h (ap refusal_number (sym (ap answer_in e) ∙ no_answer (eqb (call_report office area out).refusal 0) _ _ next)))
+    let refused : cond (eqb o.refusal 0) (Ok (accepted_as step o.numbers)) (Err (refusal_of o.refusal)) ≡ Err k = cc in
+    (call_leaves step area (refused_by step o (eqb o.refusal 0) refl refused), refl)
+refused_leaves area out (Ok (Report next)) e = absurd (no_answer (eqb (call_report office area out).refusal 0) _ _ next e)
 
--- THE RETURNS. A turn that leaves area and output, goes on at `next`, prints the first `size` bytes of a buffer, and keeps the first n
--- of the buffer of reports.
-abbrev Turned : List ℕ → List ℕ → ℕ → List ℕ → ℕ → List ℕ → ℕ → ℕ → Effect → Type 0
-Turned area' out' next buffer size report n over s =
-    (area' ≡ s.area) × ((out' ≡ s.output) × ((next ≡ next_or over s.answer) × (Front buffer size (printed s) × KeptReport area' out' report n)))
+-- THE RETURNS. A turn that leaves area and output, goes on at `next`, shows a text of one of the two buffers, and keeps a report.
+abbrev Turned : (area' out' report text : List ℕ) (next : ℕ) (shown : Shown) (kept : Option ℕ) (over : ℕ) (s : Effect) → Type 0
+Turned area' out' report text next' shown kept' over s = record {
+  area : area' ≡ s.area;
+  output : out' ≡ s.output;
+  next : next' ≡ next_or over s.answer;
+  printed : Front (buffer_of report text shown) (size_of shown) (printed s);
+  kept : KeptReport area' out' report kept';
+}
 
 module _ (input area out : List ℕ) (at : ℕ) where
   -- by the step s that was asked for
-  module _ {q : Command} (e : q ≡ command_at input at) {next : ℕ} (h : q ≡ Report next) (report : List ℕ) where
+  module _ {q : Result Command Refusal} (e : q ≡ command_at input at) {next : ℕ} (h : q ≡ Ok (Report next)) (report text : List ℕ) where
     -- a report that is kept
-    pub report_kept : (n : ℕ) → KeptReport area out report n → (n ≡ 0 → ⊥)
-        → Turned area out next report n report n (length input) (step_at input area out at)
+    pub report_kept : {kept : Option ℕ} → KeptReport area out report kept → {n : ℕ} → kept ≡ Some n
+        → Turned area out report text next (ShownReport n) (Some n) (length input) (step_at input area out at)
     unfolding perform
-    report_kept n k m =
+    report_kept known {n} some =
+        let k = rw some at known in
         rw (by_command input area out at e h)
-        (sym (demand_1.reporting office area out).1, (sym (k m next).0, (sym (report_goes_on (call_report office area out) next (length input)), ((k m next).1, k))))
+        (record {
+          area = sym (demand_1.reporting office area out).1;
+          output = sym (k next).0;
+          next = sym (report_goes_on (call_report office area out) next (length input));
+          printed = (k next).1;
+          kept = k;
+        })
 
     -- a report that is made
     pub report_made : {answer : Reply} {area' out' : List ℕ} → Takes answer area' out' (step_at input area out at)
-        → (end : List ℕ) (size : ℕ) → Puts answer out' report end size → Turned area' out' next end size end size (length input) (step_at input area out at)
+        → {end : List ℕ} {size : ℕ} → Puts answer out' report end size
+        → Turned area' out' end text next (ShownReport size) (Some size) (length input) (step_at input area out at)
     unfolding perform
-    report_made t end size f =
+    report_made t {end} {size} f =
         let asked = by_command input area out at e h in
-        let front = shows (step_at input area out at) t report end size f in (
-          t.1.0,
-          (
-            t.1.1,
-            (
-              rw asked (sym (report_goes_on (call_report office area out) next (length input))),
-              (
-                front,
-                rw (t.1.0, t.1.1, asked) (keeps_report area out next size end (rw asked at front)),
-              ),
-            ),
-          ),
-        )
+        let front = shows (step_at input area out at) t report end size f in
+        record {
+          area = t.1.0;
+          output = t.1.1;
+          next = rw asked (sym (report_goes_on (call_report office area out) next (length input)));
+          printed = front;
+          kept = rw (t.1.0, t.1.1, asked) (keeps_report area out next size end (rw asked at front));
+        }
 
   -- any other step
-  module _ {answer : Reply} {area' out' : List ℕ} (t : Takes answer area' out' (step_at input area out at)) (text end : List ℕ) (size : ℕ)
-      (f : Puts answer out' text end size) (next : ℕ) (g : next ≡ next_or (length input) answer) (report : List ℕ) where
+  module _ {answer : Reply} {area' out' : List ℕ} (t : Takes answer area' out' (step_at input area out at)) (text : List ℕ) {end : List ℕ} {size : ℕ}
+      (f : Puts answer out' text end size) {next : ℕ} (g : next ≡ next_or (length input) answer) (report : List ℕ) where
     -- keeps nothing
-    pub step-taken : Turned area' out' next end size report 0 (length input) (step_at input area out at)
-    step-taken =
-        (t.1.0, (t.1.1, (g ∙ ap (next_or (length input)) t.0, (shows (step_at input area out at) t text end size f, λ h. absurd (h refl)))))
+    pub step_taken : Turned area' out' report end next (Line size) None (length input) (step_at input area out at)
+    step_taken = record {
+      area = t.1.0;
+      output = t.1.1;
+      next = g ∙ ap (next_or (length input)) t.0;
+      printed = shows (step_at input area out at) t text end size f;
+      kept = tt;
+    }
 
     -- refused, it keeps what was kept
-    pub step-refused : {a : StepAnswer} {after : ℕ} → answer ≡ Answered a after → (refusal_number a ≡ 0 → ⊥) → (n : ℕ) → KeptReport area out report n
-        → Turned area' out' next end size report n (length input) (step_at input area out at)
+    pub step_refused : {k : Refusal} {after : ℕ} → answer ≡ Answered (Err k) after → (kept : Option ℕ) → KeptReport area out report kept
+        → Turned area' out' report end next (Line size) kept (length input) (step_at input area out at)
     unfolding step_at
-    step-refused h r n k =
-        let left = refused_leaves area out (command_at input at) (sym t.0 ∙ h) r in
-        (t.1.0, (t.1.1, (g ∙ ap (next_or (length input)) t.0, (shows (step_at input area out at) t text end size f, rw (t.1.0 ∙ left.0, t.1.1 ∙ left.1) k))))
+    step_refused h kept k =
+        let left = refused_leaves area out (command_at input at) (sym t.0 ∙ h) in
+        record {
+          area = t.1.0;
+          output = t.1.1;
+          next = g ∙ ap (next_or (length input)) t.0;
+          printed = shows (step_at input area out at) t text end size f;
+          kept = rw (t.1.0 ∙ left.0, t.1.1 ∙ left.1) k;
+        }

@@ -11,8 +11,8 @@ use borrow.Author.Tests.{ltb-true, ltb-false, le-ltb, lt-ltb}
 use Rattle.model.specs.Lists.{concat_map}
 use Rattle.model.specs.Session.{Printed}
 use Rattle.theory.proofs.Lists.Laws.{concat_map-append}
-use Rattle.session.specs.declared.steps.Begun.{Begun}
-use Rattle.session.specs.declared.steps.Begun.TheVariants.{Refused as NotBegun, At}
+use Rattle.std.specs.Prelude.{Result, Ok, Err}
+use Rattle.refusal.specs.declared.Refusal.{Refusal}
 use Rattle.session.specs.declared.steps.Reply.{Reply}
 use Rattle.session.specs.declared.steps.Reply.TheVariants.{Ended, Stopped, Answered, NotReported, Reported}
 use Rattle.session.specs.text.Text.{line_text, lines_text}
@@ -101,10 +101,10 @@ module _ (input : List ℕ) where
   over-after (NotReported n next) f e = refl
   over-after (Reported n next) f e = refl
 
-  over-at-first : (a : Begun) (f : ℕ → Printed) → f (length input) ≡ [] → after_opening a f ≡ f (first_or (length input) a)
+  over-at-first : (a : Result ℕ Refusal) (f : ℕ → Printed) → f (length input) ≡ [] → after_opening a f ≡ f (first_or (length input) a)
   unfolding after_opening first_or
-  over-at-first (NotBegun n) f e = sym e
-  over-at-first (At at) f e = refl
+  over-at-first (Err x) f e = sym e
+  over-at-first (Ok at) f e = refl
 
   -- the turns print the lines of the steps
   same_text : (k : ℕ) (s : Standing) → turns_text input k s ≡ lines_text (steps_from input k s.at s.area s.output)

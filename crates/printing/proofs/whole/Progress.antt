@@ -10,8 +10,10 @@ use borrow.Author.Tests.{le-ltb}
 use Rattle.model.specs.Limits.{office}
 use Rattle.model.specs.Call.{call_report}
 use Rattle.model.specs.Session.{Printed}
+use Rattle.std.specs.Prelude.{Result, Ok, Err}
+use Rattle.refusal.specs.declared.Refusal.{Refusal}
 use Rattle.session.specs.declared.command.Command.{Command}
-use Rattle.session.specs.declared.command.Command.TheVariants.{Ended as NoMore, Stopped as Stop, Take, Report}
+use Rattle.session.specs.declared.command.Command.TheVariants.{Ended as NoMore, Take, Report}
 use Rattle.session.specs.command.Commands.{command_at, Behind}
 use Rattle.session.proofs.command.Progress.{commands_go_on}
 use Rattle.session.specs.declared.steps.Reply.{Reply}
@@ -22,18 +24,18 @@ use Rattle.printing.specs.whole.Whole.{Onward, onward, steps_from, all_steps, On
 
 module _ (p n : ℕ) where
   -- a report's answer goes on at the position given
-  goes_answer : (next refusal : ℕ) (accepted : Reply) (t : Bool) → (p < next) × (next ≤ n) → Onward p n accepted
+  goes_answer : (next : ℕ) (refusal : Refusal) (accepted : Reply) (t : Bool) → (p < next) × (next ≤ n) → Onward p n accepted
       → Onward p n (cond t accepted (NotReported refusal next))
   goes_answer next refusal accepted true h k = k
   goes_answer next refusal accepted false h k = h
 
   -- a step goes on where what was asked for ends
-  goes_performed : (area out : List ℕ) (q : Command) → Behind p n q → Onward p n (perform area out q).answer
+  goes_performed : (area out : List ℕ) (q : Result Command Refusal) → Behind p n q → Onward p n (perform area out q).answer
   unfolding perform still reported_by
-  goes_performed area out NoMore h = tt
-  goes_performed area out (Stop k) h = tt
-  goes_performed area out (Take step next) h = h
-  goes_performed area out (Report next) h = goes_answer next _ _ (eqb (call_report office area out).refusal 0) h h
+  goes_performed area out (Ok NoMore) h = tt
+  goes_performed area out (Err e) h = tt
+  goes_performed area out (Ok (Take step next)) h = h
+  goes_performed area out (Ok (Report next)) h = goes_answer next _ _ (eqb (call_report office area out).refusal 0) h h
 
 pub steps_go_on : StepsGoOn
 unfolding step_at

@@ -10,8 +10,11 @@ use lib.Dec.{eqb, ltb}
 use borrow.Author.Tests.{ltb-true, ltb-false, le-leb}
 use Rattle.leb128.specs.Number.{max_groups, max_number}
 use Rattle.leb128.specs.Answer.{read_at}
-use Rattle.leb128.specs.declared.Decoded.{Decoded}
-use Rattle.leb128.specs.declared.Decoded.TheVariants.{Number, Cut, Invalid}
+use Rattle.leb128.specs.declared.Number.{Number}
+use Rattle.leb128.specs.declared.NumberError.{NumberError}
+use Rattle.std.specs.Prelude.{Result, Ok, Err}
+use Rattle.refusal.specs.declared.Refusal.{Refusal}
+use Rattle.refusal.specs.Numbers.{refusal_of as named}
 use Rattle.model.specs.Limits.{office, session_capacity}
 use Rattle.model.specs.Step.{State, Answer, refused, accepted, add_line, bind}
 use Rattle.model.specs.Report.{report, report_bytes}
@@ -28,12 +31,13 @@ use Rattle.theory.proofs.Runs.Simulation.{Lives, stepped-refusal, call_lives, fo
 use Rattle.theory.proofs.Theorems.{office-modest, lengths, demand_1}
 use Rattle.book.proofs.reader.Below.{number_of as read_of, number_read}
 use Rattle.step.specs.declared.answer.Step.TheVariants.{Add, Bind}
-use Rattle.step.specs.declared.answer.StepAnswer.{StepAnswer}
-use Rattle.step.specs.declared.answer.StepAnswer.TheVariants.{Refused, Added, Bound}
+use Rattle.step.specs.declared.answer.Accepted.{Accepted}
+use Rattle.step.specs.declared.answer.Accepted.TheVariants.{Added, Bound}
 use Rattle.step.specs.answer.Stepped.{accepted_as}
 use Rattle.calls.specs.Called.{call_step, answer_to}
 use Rattle.session.specs.text.Text.{numbers_in}
 use Rattle.session.proofs.text.Numbers.{numbers_in_lem}
+use Rattle.session.proofs.steps.Told.{ToldAnswer, add_told, bind-told}
 use Rattle.session.proofs.steps.Lines.{one_number, two_numbers}
 use Rattle.session.specs.declared.command.Command.{Command}
 use Rattle.session.specs.declared.command.Command.TheVariants.{Take, Report}
@@ -78,23 +82,24 @@ module _ (input : List ℕ) (k : ℕ)
 
   module _ (s : State) (area out : List ℕ) (held : Carries s area out) where
     -- so for what is asked for
-    abbrev shows : Command → Printed
+    abbrev shows : Result Command Refusal → Printed
     shows q = shown (perform area out q)
 
     -- an answer of a call: a, for the outcome o, and `accepting` where it accepts
-    record OfCall (a : Answer) (o : Outcome) (accepting : StepAnswer) : Type 0 where
+    record OfCall (a : Answer) (o : Outcome) (accepting : Accepted) : Type 0 where
       refusal : o.refusal ≡ refusal_of a
       numbered : Numbered a
-      line : (ns : List ℕ) (s' : State) → a ≡ accepted ns s' → answer_line accepting ≡ 0 ∷ ns
+      told : ToldAnswer a
+      line : (ns : List ℕ) (s' : State) → a ≡ accepted ns s' → answer_line (Ok accepting) ≡ 0 ∷ ns
       after-held : Carries (after s a) o.area out
 
-    same_answer : (a : Answer) (o : Outcome) (accepting : StepAnswer) (at : ℕ) → OfCall a o accepting
-        → let answer = Answered (cond (eqb o.refusal 0) accepting (Refused o.refusal)) at in
+    same_answer : (a : Answer) (o : Outcome) (accepting : Accepted) (at : ℕ) → OfCall a o accepting
+        → let answer = Answered (cond (eqb o.refusal 0) (Ok accepting) (Err (named o.refusal))) at in
         Model.answered s a (λ s'. steps k s' (drop at input)) ≡
         lines answer out ++ onward answer (λ next. steps_from input k next o.area out)
     unfolding Model.answered lines answer_line onward
     same_answer (refused n) o accepting at h =
-        rw (h.refusal, refusal_zero (refused n) h.numbered) (ap (λ x. (n ∷ []) ∷ x) (ih at s o.area out h.after-held))
+        rw (h.refusal, refusal_zero (refused n) h.numbered, h.told) (ap (λ x. (n ∷ []) ∷ x) (ih at s o.area out h.after-held))
     same_answer (accepted ns s') o accepting at h =
         rw (h.refusal, h.line ns s' refl) (ap (λ x. (0 ∷ ns) ∷ x) (ih at s' o.area out h.after-held))
 
@@ -109,7 +114,7 @@ module _ (input : List ℕ) (k : ℕ)
 
     -- a line
     same_added : (l r at : ℕ) → Model.answered s (add_line office s l r) (λ s'. steps k s' (drop at input)) ≡
-        shows (Take (Add l r) at)
+        shows (Ok (Take (Add l r) at))
     unfolding perform call_step answer_to accepted_as call lines answer_line onward
     same_added l r at =
         let o : Outcome = call_add office area l r in
@@ -118,6 +123,7 @@ module _ (input : List ℕ) (k : ℕ)
         (record {
           refusal = ap (λ x. x.refusal) on ∙ stepped-refusal office 1 area (add_line office s l r);
           numbered = answer_numbered office s (add l r);
+          told = add_told office s l r;
           line = λ ns s' e. ap (λ xs. 0 ∷ xs)
               (one_number o.numbers (demand_1.adding office area l r).0.as_many ∙ ap (λ x. x.numbers) on ∙
               stepped-numbers 1 area ns (add_line office s l r) s' e);
@@ -126,7 +132,7 @@ module _ (input : List ℕ) (k : ℕ)
 
     -- a choice
     same-bound : (v t at : ℕ) → Model.answered s (bind s v t) (λ s'. steps k s' (drop at input)) ≡
-        shows (Take (Bind v t) at)
+        shows (Ok (Take (Bind v t) at))
     unfolding perform call_step answer_to accepted_as call lines answer_line onward
     same-bound v t at =
         let o : Outcome = call_bind office area v t in
@@ -135,6 +141,7 @@ module _ (input : List ℕ) (k : ℕ)
         (record {
           refusal = ap (λ x. x.refusal) on ∙ stepped-refusal office 2 area (bind s v t);
           numbered = answer_numbered office s (fix v t);
+          told = bind-told s v t;
           line = λ ns s' e. ap (λ xs. 0 ∷ xs)
               (two_numbers o.numbers (demand_1.fixing office area v t).0.as_many ∙ ap (λ x. x.numbers) on ∙
               stepped-numbers 2 area ns (bind s v t) s' e);
@@ -170,25 +177,24 @@ module _ (input : List ℕ) (k : ℕ)
           room = rw (length-append, length-drop) (omega (arith, report-fits, held.room));
         }
 
-    same-report : (at : ℕ) → (0 ∷ report s) ∷ steps k s (drop at input) ≡ shows (Report at)
+    same-report : (at : ℕ) → (0 ∷ report s) ∷ steps k s (drop at input) ≡ shows (Ok (Report at))
     unfolding perform reported_by lines onward accept
     same-report at =
         rw (report-outcome, report-numbers) (ap (λ x. (0 ∷ report s) ∷ x) (ih at s area (over (report_bytes s) out) report-held))
 
     -- NUMBERS. What follows a number.
-    same_number : (d : Decoded) (f : ℕ → List ℕ → Printed) (g : ℕ → ℕ → Command)
+    same_number : (d : Result Number NumberError) (f : ℕ → List ℕ → Printed) (g : ℕ → ℕ → Result Command Refusal)
         → ((n next : ℕ) → f n (drop next input) ≡ shows (g n next)) → Model.or_stop (read_of input d) f ≡ shows (or_stopped d g)
     unfolding Model.or_stop or_stopped perform still lines onward
-    same_number (Number n next) f g h = h n next
-    same_number Cut f g h = refl
-    same_number Invalid f g h = refl
+    same_number (Ok r) f g h = h r.value r.next
+    same_number (Err e) f g h = refl
 
-    number_at : (at : ℕ) (f : ℕ → List ℕ → Printed) (g : ℕ → ℕ → Command) → ((n next : ℕ) → f n (drop next input) ≡ shows (g n next))
+    number_at : (at : ℕ) (f : ℕ → List ℕ → Printed) (g : ℕ → ℕ → Result Command Refusal) → ((n next : ℕ) → f n (drop next input) ≡ shows (g n next))
         → Model.or_stop (parse_number (drop at input)) f ≡ shows (with_number input at g)
     number_at at f g h =
         ap (λ p. Model.or_stop p f) (number_read input at) ∙ same_number (read_at max_groups max_number input at) f g h
 
-    two_at : (at : ℕ) (f : ℕ → ℕ → List ℕ → Printed) (g : ℕ → ℕ → ℕ → Command)
+    two_at : (at : ℕ) (f : ℕ → ℕ → List ℕ → Printed) (g : ℕ → ℕ → ℕ → Result Command Refusal)
         → ((m n next : ℕ) → f m n (drop next input) ≡ shows (g m n next))
         → Model.or_stop (parse_number (drop at input)) (λ m rest. Model.or_stop (parse_number rest) (f m)) ≡ shows (with_two input at g)
     unfolding with_two
@@ -199,9 +205,9 @@ module _ (input : List ℕ) (k : ℕ)
     unfolding Model.step by_number perform still lines onward
     same_by_number zero at = refl
     same_by_number (suc zero) at =
-        two_at at (λ l r rest. Model.answered s (add_line office s l r) (λ s'. steps k s' rest)) (λ l r next. Take (Add l r) next) same_added
+        two_at at (λ l r rest. Model.answered s (add_line office s l r) (λ s'. steps k s' rest)) (λ l r next. Ok (Take (Add l r) next)) same_added
     same_by_number (suc (suc zero)) at =
-        two_at at (λ v t rest. Model.answered s (bind s v t) (λ s'. steps k s' rest)) (λ v t next. Take (Bind v t) next) same-bound
+        two_at at (λ v t rest. Model.answered s (bind s v t) (λ s'. steps k s' rest)) (λ v t next. Ok (Take (Bind v t) next)) same-bound
     same_by_number (suc (suc (suc zero))) at = same-report at
     same_by_number (suc (suc (suc (suc n)))) at = refl
 

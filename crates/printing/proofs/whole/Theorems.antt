@@ -10,8 +10,11 @@ use lib.Dec.{T, eqb, leb}
 use borrow.Author.Tests.{lt-leb, leb-true, leb-false}
 use Rattle.leb128.specs.Number.{max_groups, max_number}
 use Rattle.leb128.specs.Answer.{read_at}
-use Rattle.leb128.specs.declared.Decoded.{Decoded}
-use Rattle.leb128.specs.declared.Decoded.TheVariants.{Number, Cut, Invalid}
+use Rattle.leb128.specs.declared.Number.{Number}
+use Rattle.leb128.specs.declared.NumberError.{NumberError}
+use Rattle.leb128.specs.declared.NumberError.TheVariants.{Cut, Invalid}
+use Rattle.std.specs.Prelude.{Result, Ok, Err}
+use Rattle.refusal.specs.declared.Refusal.TheVariants.{Cut as CutShort, OutOfRange}
 use Rattle.model.specs.Limits.{office, max_session, session_capacity}
 use Rattle.model.specs.Term.{Book}
 use Rattle.model.specs.Step.{State, opened}
@@ -24,8 +27,9 @@ use Rattle.theory.specs.Lengths.{longest_session_report}
 use Rattle.theory.proofs.Soundness.Facts.{SoundFacts}
 use Rattle.theory.proofs.Area.Bytes.{over_carries}
 use Rattle.theory.proofs.Book.Round.{opened-sound}
-use Rattle.theory.proofs.Book.Opening.{book_positive, opens_by_book}
+use Rattle.theory.proofs.Book.Opening.{book-refused, book_positive, opens_by_book}
 use Rattle.book.proofs.reader.Below.{number_of as read_of, number_read}
+use Rattle.session.proofs.steps.Told.{book_told}
 use Rattle.session.specs.steps.Effects.{Start, not_begun, begun, open_book, start}
 use Rattle.session.specs.steps.Lines.{opening_line}
 use Rattle.printing.specs.whole.Whole.{after_opening, all_steps, session_on_bytes, SessionOnBytes, CutTooLong}
@@ -58,28 +62,35 @@ module _ (input area out : List ℕ) (long : area_length office session_capacity
       ap (λ x. (0 ∷ []) ∷ x)
       (same-steps input (length (drop at input)) at s (over (area_bytes office s) area) out held ∙
       steps_enough input (length (drop at input)) (length input) at _ out (omega (arith, length-drop at input)) (omega arith))
-  same-parsed book at (unparsed n) e = rw (positive_refusal n (rw e at (book_positive office book)))
+  same-parsed book at (unparsed n) e =
+      rw (positive_refusal n (rw e at (book_positive office book)), book_told n (rw e at (book-refused office book))) refl
 
   -- by the length that was read
-  same-book : (d : Decoded) → Model.or_stop (read_of input d) with_length ≡ shown (open_book input area d)
+  same-book : (d : Result Number NumberError) → Model.or_stop (read_of input d) with_length ≡ shown (open_book input area d)
   unfolding Model.or_stop with_length open_book not_begun opening_line after_opening
-  same-book (Number n at) =
+  same-book (Ok r) =
       let book : List ℕ = take n (drop at input) in
       rw (length-drop, drop-drop, opens_by_book office session_capacity book area (omega arith, omega arith, long)) (go (leb n (length input - at)))
     where
+      n : ℕ
+      n = r.value
+
+      at : ℕ
+      at = r.next
+
       go : (t : Bool) → cond t (begin (parse_book office (take n (drop at input))) (drop (at + n) input)) ((1 ∷ []) ∷ []) ≡
-          shown (cond t (begun (at + n) (open_parsed office session_capacity area (parse_book office (take n (drop at input))))) (not_begun area 1))
+          shown (cond t (begun (at + n) (open_parsed office session_capacity area (parse_book office (take n (drop at input))))) (not_begun area CutShort))
       go true = same-parsed (take n (drop at input)) (at + n) (parse_book office (take n (drop at input))) refl
       go false = refl
-  same-book Cut = refl
-  same-book Invalid = refl
+  same-book (Err Cut) = refl
+  same-book (Err Invalid) = refl
 
 pub session_on_bytes_lem : SessionOnBytes
 unfolding session_on_bytes session start not_begun opening_line after_opening
 session_on_bytes_lem input area out long room = sym (go (leb (length input) max_session))
   where
     go : (t : Bool) → cond t (Model.or_stop (parse_number input) with_length) ((4 ∷ []) ∷ []) ≡
-        shown input area out long room (cond t (open_book input area (read_at max_groups max_number input 0)) (not_begun area 4))
+        shown input area out long room (cond t (open_book input area (read_at max_groups max_number input 0)) (not_begun area OutOfRange))
     go true =
         ap (λ p. Model.or_stop p with_length) (number_read input 0) ∙
         same-book input area out long room (read_at max_groups max_number input 0)

@@ -1,12 +1,11 @@
 -- A whole session on bytes, its steps one after the other, against the session of crate model. Definitions, and statements of
 -- what is proved in proofs/.
-use Rattle.std.specs.Prelude.{◌≡◌, List, [], ◌∷◌, ◌++◌, ℕ, zero, suc, ◌<◌, ◌≤◌, length, take}
+use Rattle.std.specs.Prelude.{◌≡◌, List, [], ◌∷◌, ◌++◌, ℕ, zero, suc, ◌<◌, ◌≤◌, length, take, Result, Ok, Err}
 use Rattle.model.specs.Limits.{office, max_session, session_capacity}
 use Rattle.model.specs.Area.{area_length}
 use Rattle.model.specs.Session.{Printed, session}
 use Rattle.theory.specs.Lengths.{longest_session_report}
-use Rattle.session.specs.declared.steps.Begun.{Begun}
-use Rattle.session.specs.declared.steps.Begun.TheVariants.{Refused as NotBegun, At}
+use Rattle.refusal.specs.declared.Refusal.{Refusal}
 use Rattle.session.specs.declared.steps.Reply.{Reply}
 use Rattle.session.specs.declared.steps.Reply.TheVariants.{Ended, Stopped, Answered, NotReported, Reported}
 use Rattle.session.specs.steps.Effects.{start, step_at}
@@ -15,14 +14,14 @@ use Rattle.session.specs.steps.Lines.{opening_line, lines}
 -- What follows an answer, with the position at which the session goes on; nothing where it is over.
 unfoldable pub onward : Reply → (ℕ → Printed) → Printed
 onward Ended then = []
-onward (Stopped n) then = []
+onward (Stopped e) then = []
 onward (Answered a next) then = then next
-onward (NotReported n next) then = then next
+onward (NotReported e next) then = then next
 onward (Reported n next) then = then next
 
-unfoldable pub after_opening : Begun → (ℕ → Printed) → Printed
-after_opening (NotBegun n) then = []
-after_opening (At at) then = then at
+unfoldable pub after_opening : Result ℕ Refusal → (ℕ → Printed) → Printed
+after_opening (Ok at) then = then at
+after_opening (Err e) then = []
 
 module _ (input : List ℕ) where
   -- At most k steps from a position on: each prints its line, and gets the area and the output as the last one left them.
@@ -60,9 +59,9 @@ CutTooLong = (input : List ℕ) → session (take (suc max_session) input) ≡ s
 -- The position at which an answer leaves the session, if any, lies behind the position p and within n bytes.
 abbrev pub Onward : ℕ → ℕ → Reply → Type 0
 Onward p n Ended = Unit {0}
-Onward p n (Stopped k) = Unit {0}
+Onward p n (Stopped e) = Unit {0}
 Onward p n (Answered a next) = (p < next) × (next ≤ n)
-Onward p n (NotReported k next) = (p < next) × (next ≤ n)
+Onward p n (NotReported e next) = (p < next) × (next ≤ n)
 Onward p n (Reported k next) = (p < next) × (next ≤ n)
 
 -- A step goes on behind the position at which it began: so the steps end.

@@ -9,8 +9,10 @@ use lib.Dec.{ltb}
 use borrow.Author.Tests.{ltb-true, ltb-false}
 use Rattle.leb128.specs.Number.{max_groups, max_number}
 use Rattle.leb128.specs.Answer.{read_at}
-use Rattle.leb128.specs.declared.Decoded.{Decoded}
-use Rattle.leb128.specs.declared.Decoded.TheVariants.{Number, Cut, Invalid}
+use Rattle.leb128.specs.declared.Number.{Number}
+use Rattle.leb128.specs.declared.NumberError.{NumberError}
+use Rattle.std.specs.Prelude.{Result, Ok, Err}
+use Rattle.refusal.specs.declared.Refusal.{Refusal}
 use Rattle.model.specs.BookBytes.{parse_number}
 use Rattle.step.specs.declared.answer.Step.TheVariants.{Add, Bind}
 use Rattle.book.proofs.reader.Below.{number_of, number_read}
@@ -26,17 +28,16 @@ some_asked (x ∷ xs) h = refl
 
 module _ (input : List ℕ) where
   -- what follows a number
-  number_asked : (at : ℕ) (f : ℕ → ℕ → Command) (g : ℕ → List ℕ → List ℕ) → ((n next : ℕ) → command_numbers (f n next) ≡ g n (drop next input))
+  number_asked : (at : ℕ) (f : ℕ → ℕ → Result Command Refusal) (g : ℕ → List ℕ → List ℕ) → ((n next : ℕ) → command_numbers (f n next) ≡ g n (drop next input))
       → command_numbers (with_number input at f) ≡ or_refusal (parse_number (drop at input)) g
   unfolding or_stopped or_refusal command_numbers
   number_asked at f g h = go (read_at max_groups max_number input at) ∙ sym (ap (λ p. or_refusal p g) (number_read input at))
     where
-      go : (d : Decoded) → command_numbers (or_stopped d f) ≡ or_refusal (number_of input d) g
-      go (Number n next) = h n next
-      go Cut = refl
-      go Invalid = refl
+      go : (d : Result Number NumberError) → command_numbers (or_stopped d f) ≡ or_refusal (number_of input d) g
+      go (Ok r) = h r.value r.next
+      go (Err e) = refl
 
-  two_asked : (n at : ℕ) (f : ℕ → ℕ → ℕ → Command) → ((x y next : ℕ) → command_numbers (f x y next) ≡ 0 ∷ n ∷ x ∷ y ∷ [])
+  two_asked : (n at : ℕ) (f : ℕ → ℕ → ℕ → Result Command Refusal) → ((x y next : ℕ) → command_numbers (f x y next) ≡ 0 ∷ n ∷ x ∷ y ∷ [])
       → command_numbers (with_two input at f) ≡ with_two_numbers n (drop at input)
   unfolding with_two with_two_numbers
   two_asked n at f h = number_asked at _ _ (λ x at'. number_asked at' (f x) _ (h x))
@@ -44,8 +45,8 @@ module _ (input : List ℕ) where
   by_number_asked : (n at : ℕ) → command_numbers (by_number input n at) ≡ asked_by n (drop at input)
   unfolding by_number command_numbers asked_by
   by_number_asked zero at = refl
-  by_number_asked (suc zero) at = two_asked 1 at (λ l r next. Take (Add l r) next) (λ x y next. refl)
-  by_number_asked (suc (suc zero)) at = two_asked 2 at (λ v t next. Take (Bind v t) next) (λ x y next. refl)
+  by_number_asked (suc zero) at = two_asked 1 at (λ l r next. Ok (Take (Add l r) next)) (λ x y next. refl)
+  by_number_asked (suc (suc zero)) at = two_asked 2 at (λ v t next. Ok (Take (Bind v t) next)) (λ x y next. refl)
   by_number_asked (suc (suc (suc zero))) at = refl
   by_number_asked (suc (suc (suc (suc n)))) at = refl
 
@@ -53,12 +54,13 @@ module _ (input : List ℕ) where
   unfolding command_at asked_numbers command_numbers
   asked at = go (ltb at (length input)) refl
     where
-      go : (t : Bool) → ltb at (length input) ≡ t → command_numbers (cond t (with_number input at (by_number input)) Ended) ≡ asked_numbers (drop at input)
+      go : (t : Bool) → ltb at (length input) ≡ t → command_numbers (cond t (with_number input at (by_number input)) (Ok Ended)) ≡ asked_numbers (drop at input)
       go true e =
           let here : 0 < length (drop at input) = rw length-drop (omega (arith, ltb-true at (length input) e)) in
           number_asked at (by_number input) asked_by by_number_asked ∙ sym (some_asked (drop at input) here)
       go false e = sym (ap asked_numbers (drop_of_length-le input (ltb-false at (length input) e)))
 
   -- so by the reader's answer
-  pub told : (at : ℕ) {c : Command} → c ≡ command_at input at → (c ≡ command_at input at) × (command_numbers c ≡ asked_numbers (drop at input))
-  told at e = (e, ap command_numbers e ∙ asked at)
+  pub told : (at : ℕ) {c : Result Command Refusal} → c ≡ command_at input at
+      → record { command : c ≡ command_at input at; numbers : command_numbers c ≡ asked_numbers (drop at input) }
+  told at e = record { command = e; numbers = ap command_numbers e ∙ asked at }

@@ -7,8 +7,10 @@ use lib.ListN.{length}
 use lib.Dec.{ltb}
 use Rattle.leb128.specs.Number.{max_groups, max_number}
 use Rattle.leb128.specs.Answer.{read_at}
-use Rattle.leb128.specs.declared.Decoded.{Decoded}
-use Rattle.leb128.specs.declared.Decoded.TheVariants.{Number, Cut, Invalid}
+use Rattle.leb128.specs.declared.Number.{Number}
+use Rattle.leb128.specs.declared.NumberError.{NumberError}
+use Rattle.std.specs.Prelude.{Result, Ok, Err}
+use Rattle.refusal.specs.declared.Refusal.{Refusal}
 use Rattle.session.proofs.text.Numbers.{Ahead, read_ahead}
 use Rattle.session.specs.declared.command.Command.{Command}
 use Rattle.session.specs.declared.command.Command.TheVariants.{Ended}
@@ -16,22 +18,21 @@ use Rattle.session.specs.command.Commands.{or_stopped, with_number, with_two, by
 
 module _ (input : List ℕ) (p : ℕ) where
   -- a step goes on behind p, within the input
-  abbrev Goes : Command → Type 0
+  abbrev Goes : Result Command Refusal → Type 0
   Goes q = Behind p (length input) q
 
   -- so does what follows a number behind p, if it does at every position behind
-  goes_number : (d : Decoded) (at : ℕ) (then : ℕ → ℕ → Command) → p ≤ at → Ahead at (length input) d
+  goes_number : (d : Result Number NumberError) (at : ℕ) (then : ℕ → ℕ → Result Command Refusal) → p ≤ at → Ahead at (length input) d
       → ((n next : ℕ) → p < next → next ≤ length input → Goes (then n next)) → Goes (or_stopped d then)
   unfolding or_stopped
-  goes_number (Number n next) at then l a h = h n next (omega arith) a.1
-  goes_number Cut at then l a h = tt
-  goes_number Invalid at then l a h = tt
+  goes_number (Ok r) at then l a h = h r.value r.next (omega arith) a.1
+  goes_number (Err e) at then l a h = tt
 
-  goes_at : (at : ℕ) (then : ℕ → ℕ → Command) → p ≤ at
+  goes_at : (at : ℕ) (then : ℕ → ℕ → Result Command Refusal) → p ≤ at
       → ((n next : ℕ) → p < next → next ≤ length input → Goes (then n next)) → Goes (with_number input at then)
   goes_at at then l h = goes_number (read_at max_groups max_number input at) at then l (read_ahead input at) h
 
-  goes_two : (at : ℕ) (then : ℕ → ℕ → ℕ → Command) → p ≤ at
+  goes_two : (at : ℕ) (then : ℕ → ℕ → ℕ → Result Command Refusal) → p ≤ at
       → ((m n next : ℕ) → p < next → next ≤ length input → Goes (then m n next)) → Goes (with_two input at then)
   unfolding with_two
   goes_two at then l h = goes_at at _ l (λ m at' l' r'. goes_at at' _ (omega arith) (h m))
@@ -48,6 +49,6 @@ pub commands_go_on : CommandsGoOn
 unfolding command_at
 commands_go_on input at = go (ltb at (length input))
   where
-    go : (t : Bool) → Behind at (length input) (cond t (with_number input at (by_number input)) Ended)
+    go : (t : Bool) → Behind at (length input) (cond t (with_number input at (by_number input)) (Ok Ended))
     go true = goes_at input at at _ (omega arith) (goes_by_number input at)
     go false = tt

@@ -8,15 +8,19 @@ use lib.ListN.{length}
 use lib.Dec.{T, ltb, leb, leb→le}
 use Rattle.leb128.specs.Number.{max_groups, max_number}
 use Rattle.leb128.specs.Answer.{read_at}
-use Rattle.leb128.specs.declared.Decoded.{Decoded}
-use Rattle.leb128.specs.declared.Decoded.TheVariants.{Number, Cut, Invalid}
+use Rattle.leb128.specs.declared.Number.{Number}
+use Rattle.leb128.specs.declared.NumberError.{NumberError}
+use Rattle.leb128.specs.declared.NumberError.TheVariants.{Cut, Invalid}
+use Rattle.std.specs.Prelude.{Result, Ok, Err}
+use Rattle.refusal.specs.declared.Refusal.{Refusal}
+use Rattle.refusal.specs.Numbers.{number_of}
 use Rattle.model.specs.Limits.{Limits, office}
 use Rattle.model.specs.BookBytes.{Parsed, parsed, unparsed, parse_number, parse_node}
 use Rattle.theory.proofs.Lists.Laws.{and_left, and_right}
 use Rattle.theory.proofs.Book.Opening.{RefusedBy, need-refused, then-refused, of_book, number-refused as read-refused, node-refused}
 use Rattle.book.specs.unread.Unread.{number_of_terms, RefusedAt, number-refused, term-refused, bytes_left}
 use Rattle.session.specs.declared.command.Command.{Command}
-use Rattle.session.specs.declared.command.Command.TheVariants.{Ended, Stopped, Take, Report}
+use Rattle.session.specs.declared.command.Command.TheVariants.{Ended}
 use Rattle.session.specs.command.Commands.{or_stopped, with_two, by_number, command_at}
 use Rattle.session.specs.fault.Fault.{FaultAt, too_long, length_cut, length-invalid, length_past_end, book-refused}
 use Rattle.session.specs.said.Said.{ascii, words, Worded}
@@ -63,19 +67,17 @@ opening-known input k (length_past_end n at _ _ e _) = (omega (arith, e), omega 
 opening-known input k (book-refused n at _ _ r _) = refused-known office _ k r
 
 -- ---- A STEP, by its numbers.
-abbrev Stops : Command → Type 0
-Stops Ended = Unit {0}
-Stops (Stopped k) = words k ≡ [] → ⊥
-Stops (Take step next) = Unit {0}
-Stops (Report next) = Unit {0}
+abbrev Stops : Result Command Refusal → Type 0
+Stops (Ok c) = Unit {0}
+Stops (Err e) = words (number_of e) ≡ [] → ⊥
 
-or_stops : (d : Decoded) (then : ℕ → ℕ → Command) → ((n at : ℕ) → Stops (then n at)) → Stops (or_stopped d then)
+or_stops : (d : Result Number NumberError) (then : ℕ → ℕ → Result Command Refusal) → ((n at : ℕ) → Stops (then n at)) → Stops (or_stopped d then)
 unfolding or_stopped
-or_stops (Number n at) then h = h n at
-or_stops Cut then h = one_to_five 1 (omega arith) (omega arith)
-or_stops Invalid then h = one_to_five 2 (omega arith) (omega arith)
+or_stops (Ok r) then h = h r.value r.next
+or_stops (Err Cut) then h = one_to_five 1 (omega arith) (omega arith)
+or_stops (Err Invalid) then h = one_to_five 2 (omega arith) (omega arith)
 
-two_stops : (input : List ℕ) (at : ℕ) (then : ℕ → ℕ → ℕ → Command) → ((m n next : ℕ) → Stops (then m n next)) → Stops (with_two input at then)
+two_stops : (input : List ℕ) (at : ℕ) (then : ℕ → ℕ → ℕ → Result Command Refusal) → ((m n next : ℕ) → Stops (then m n next)) → Stops (with_two input at then)
 unfolding with_two
 two_stops input at then h =
     or_stops (read_at max_groups max_number input at) _ λ m at'. or_stops (read_at max_groups max_number input at') _ (h m)
@@ -92,16 +94,16 @@ command_stops : (input : List ℕ) (at : ℕ) → Stops (command_at input at)
 unfolding command_at
 command_stops input at = go (ltb at (length input))
   where
-    go : (t : Bool) → Stops (cond t (or_stopped (read_at max_groups max_number input at) (by_number input)) Ended)
+    go : (t : Bool) → Stops (cond t (or_stopped (read_at max_groups max_number input at) (by_number input)) (Ok Ended))
     go true = or_stops (read_at max_groups max_number input at) (by_number input) (number_stops input)
     go false = tt
 
-stops_at : (c : Command) {k : ℕ} → Stops c → c ≡ Stopped k → words k ≡ [] → ⊥
+stops_at : (c : Result Command Refusal) {e : Refusal} → Stops c → c ≡ Err e → words (number_of e) ≡ [] → ⊥
 stops_at c s e = rw e at s
 
 pub worded : Worded
 worded =
     record {
-      openings = λ input area k room e. let w = opening-known input k (refused_fault input area k room e) in one_to_five k w.0 w.1;
-      steps = λ input at k e. stops_at (command_at input at) (command_stops input at) e;
+      openings = λ input area r room e. let w = opening-known input (number_of r) (refused_fault input area r room e) in one_to_five (number_of r) w.0 w.1;
+      steps = λ input at r e. stops_at (command_at input at) (command_stops input at) e;
     }

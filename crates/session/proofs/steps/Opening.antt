@@ -1,69 +1,76 @@
 -- What opening answers and leaves at each return. Assumes nothing.
-use mathlib.Core.Path.{◌≡◌, refl, ap, sym, ◌∙◌}
-use mathlib.Core.List.{List, [], ◌∷◌}
-use Prim.Native.Nat.{ℕ, ◌+◌, ◌-◌, ◌≤◌, ◌<◌}
-use native.Mathlib.Omega.{arith}
-use lib.ListN.{length, take, drop}
-use borrow.Author.Tests.{le-leb, lt-leb, eq-eqb, ne_eqb}
+use Rattle.std.proofs.Common.{◌≡◌, refl, ap, sym, ◌∙◌, List, [], ◌∷◌, ℕ, ◌+◌, ◌-◌, ◌≤◌, ◌<◌, arith, length, take, drop, Result, Ok, Err, le-leb}
+use borrow.Author.Tests.{lt-leb, ne_eqb}
 use Rattle.leb128.specs.Number.{max_groups, max_number}
 use Rattle.leb128.specs.Answer.{read_at}
-use Rattle.leb128.specs.declared.Decoded.{Decoded}
-use Rattle.leb128.specs.declared.Decoded.TheVariants.{Number}
+use Rattle.leb128.specs.declared.Number.{Number}
+use Rattle.leb128.specs.declared.NumberError.{NumberError}
 use Rattle.model.specs.Limits.{office, max_session, session_capacity}
-use Rattle.model.specs.Call.{call_open}
-use Rattle.session.specs.declared.steps.Begun.{Begun}
-use Rattle.session.specs.declared.steps.Begun.TheVariants.{Refused, At}
+use Rattle.model.specs.Call.{Outcome, call_open}
+use Rattle.refusal.specs.declared.Refusal.{Refusal}
+use Rattle.refusal.specs.declared.Refusal.TheVariants.{Cut, OutOfRange}
+use Rattle.refusal.specs.Numbers.{number_of, refused_number}
+use Rattle.refusal.proofs.Numbers.{none_is_zero, told as told_by}
 use Rattle.session.specs.steps.Effects.{Start, not_begun, begun, open_book, start}
 use Rattle.session.specs.steps.Lines.{opening_line, start_refusal}
 use Rattle.session.proofs.steps.Lines.{start-line}
 
 -- the answer and the area are those of the opening s
-abbrev pub Opens : Begun → List ℕ → Start → Type 0
+abbrev pub Opens : Result ℕ Refusal → List ℕ → Start → Type 0
 Opens r end s = (r ≡ s.answer) × (end ≡ s.area)
 
-module _ (input area : List ℕ) (at size : ℕ) where
-  -- a book that runs past the end
-  pub runs_past : length input - at < size → Opens (Refused 1) area (open_book input area (Number size at))
-  unfolding open_book not_begun
-  runs_past h = rw (lt-leb size (length input - at) h) (refl, refl)
+-- by what the call of the book answers
+begun_accepted : (at : ℕ) (o : Outcome) {end : List ℕ} → 0 ≡ o.refusal → end ≡ o.area → Opens (Ok at) end (begun at o)
+unfolding begun
+begun_accepted at o e a = rw (sym e) (refl, a)
 
-  -- a book whose bytes are there, by the outcome of opening it
-  module _ (fits : size ≤ length input - at) (r : ℕ) (end : List ℕ)
-      (e : let book = take (at + size - at) (drop at input) in
-      (r ≡ (call_open office session_capacity book area).refusal) × (end ≡ (call_open office session_capacity book area).area)) where
-    -- the bytes between the two positions are as many as its length
-    as_long : at + size - at ≡ size
-    as_long = omega arith
-
-    pub book-refused : (r ≡ 0 → ⊥) → Opens (Refused r) end (open_book input area (Number size at))
-    unfolding open_book begun
-    book-refused h =
-        let e' = rw as_long at e in
-        rw (le-leb size (length input - at) fits, ← e'.0, ne_eqb r 0 h) (refl, e'.1)
-
-    pub book-opened : r ≡ 0 → Opens (At (at + size)) end (open_book input area (Number size at))
-    unfolding open_book begun
-    book-opened h =
-        let e' = rw as_long at e in
-        rw (le-leb size (length input - at) fits, ← e'.0, eq-eqb r 0 h) (refl, e'.1)
+begun_refused : (at : ℕ) (o : Outcome) {end : List ℕ} (r : Refusal) → number_of r ≡ o.refusal → end ≡ o.area → Opens (Err r) end (begun at o)
+unfolding begun
+begun_refused at o r e a = rw (ne_eqb o.refusal 0 (λ z. none_is_zero r (e ∙ z)), told_by r o.refusal e) (refl, a)
 
 module _ (input area : List ℕ) where
+  -- all that is promised of an opening
+  abbrev pub Told : Result ℕ Refusal → List ℕ → Type 0
+  Told r end = let s = start input area in let refusal = start_refusal input area in record { answer : r ≡ s.answer; area : end ≡ s.area; numbers : opening_line r ≡ refusal ∷ [] }
+
+  told : {r : Result ℕ Refusal} {end : List ℕ} → Opens r end (start input area) → Told r end
+  told o = record { answer = o.0; area = o.1; numbers = ap opening_line o.0 ∙ start-line input area }
+
   -- a session that is too long
-  pub too_long : max_session < length input → Opens (Refused 4) area (start input area)
+  pub too_long : max_session < length input → Told (Err OutOfRange) area
   unfolding start not_begun
-  too_long h = rw (lt-leb (length input) max_session h) (refl, refl)
+  too_long h = told (rw (lt-leb (length input) max_session h) (refl, refl))
 
   -- any other is decided by the number at its front
-  pub by_length : length input ≤ max_session → (d : Decoded) → d ≡ read_at max_groups max_number input 0 → start input area ≡ open_book input area d
-  unfolding start
-  by_length h d e = rw (le-leb (length input) max_session h, e)
+  module _ (short : length input ≤ max_session) where
+    by_length : {d : Result Number NumberError} → d ≡ read_at max_groups max_number input 0 → start input area ≡ open_book input area d
+    unfolding start
+    by_length e = rw (le-leb (length input) max_session short, ← e) refl
 
-  -- so is what it answers and leaves
-  pub opens_by : length input ≤ max_session → {d d' : Decoded} → d ≡ read_at max_groups max_number input 0 → d ≡ d' → (r : Begun) (end : List ℕ)
-      → Opens r end (open_book input area d') → Opens r end (start input area)
-  opens_by h {d} {d'} e q r end o = rw (by_length h d' (sym q ∙ e)) o
+    -- which is none
+    pub no_length : {e : NumberError} → Err e ≡ read_at max_groups max_number input 0 → Told (Err (refused_number e)) area
+    unfolding open_book not_begun
+    no_length e = told (rw (by_length e) (refl, refl))
 
-  -- and with its line it is all that is promised
-  pub told : {r : Begun} {end : List ℕ} → Opens r end (start input area)
-      → (r ≡ (start input area).answer) × ((end ≡ (start input area).area) × (opening_line r ≡ start_refusal input area ∷ []))
-  told o = (o.0, (o.1, ap opening_line o.0 ∙ start-line input area))
+    module _ {x : Number} (e : Ok x ≡ read_at max_groups max_number input 0) where
+      -- or is past the end
+      pub past_end : length input - x.next < x.value → Told (Err Cut) area
+      unfolding open_book not_begun
+      past_end h = told (rw (by_length e, lt-leb x.value (length input - x.next) h) (refl, refl))
+
+      -- or is that of the book
+      module _ (fits : x.value ≤ length input - x.next) where
+        abbrev pub outcome : Outcome
+        outcome = call_open office session_capacity (take (x.next + x.value - x.next) (drop x.next input)) area
+
+        by_book : start input area ≡ begun (x.next + x.value) outcome
+        unfolding open_book
+        by_book =
+            let n : x.next + x.value - x.next ≡ x.value = omega arith in
+            rw (by_length e, le-leb x.value (length input - x.next) fits, n) refl
+
+        pub refused : {end : List ℕ} (r : Refusal) → number_of r ≡ outcome.refusal → end ≡ outcome.area → Told (Err r) end
+        refused r q a = told (rw by_book (begun_refused (x.next + x.value) outcome r q a))
+
+        pub accepted : {end : List ℕ} → 0 ≡ outcome.refusal → end ≡ outcome.area → Told (Ok (x.next + x.value)) end
+        accepted q a = told (rw by_book (begun_accepted (x.next + x.value) outcome q a))

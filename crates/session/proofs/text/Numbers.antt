@@ -7,22 +7,24 @@ use native.Mathlib.Omega.{arith}
 use lib.ListN.{length, get_or, drop, length-append, length-drop, drop_of_length-le}
 use Rattle.leb128.specs.Number.{max_groups, max_number, Read, number, cut, invalid, read, read_groups, at_most, write}
 use Rattle.leb128.specs.Answer.{placed, read_at}
-use Rattle.leb128.specs.declared.Decoded.{Decoded}
-use Rattle.leb128.specs.declared.Decoded.TheVariants.{Number, Cut, Invalid}
+use Rattle.leb128.specs.declared.Number.{Number}
+use Rattle.leb128.specs.declared.NumberError.{NumberError}
+use Rattle.std.specs.Prelude.{Result, Ok, Err}
 use Rattle.leb128.proofs.Laws.{reads_what_is-written, within_the_limit, rest_is_a_tail}
 use Rattle.model.specs.Lists.{concat_map}
 use Rattle.model.specs.Report.{number_bytes}
 use Rattle.model.specs.BookBytes.{Parsed, parsed, unparsed, from_read, parse_number}
-use Rattle.book.proofs.reader.Below.{number_of, number-answered}
-use Rattle.runs.proofs.Over.{Laid, laid_none, laid_more, laid-length}
+use Rattle.book.proofs.reader.Below.{number-answered}
+use Rattle.session.specs.declared.text.Writer.{Writer}
+use Rattle.session.specs.text.Writing.{Room, Puts}
+use Rattle.session.proofs.text.Puts.{puts_none, puts_more}
 use Rattle.session.specs.text.Text.{max_digits, number_most, spaced, following, cons_number, numbers_within, numbers_in}
 use Rattle.session.proofs.text.Digits.{small_short}
 
 -- A NUMBER AT A POSITION ends behind it, within the bytes, and is within the limit.
-abbrev pub Ahead : ℕ → ℕ → Decoded → Type 0
-Ahead at size (Number n next) = (at < next) × (next ≤ size) × (n ≤ max_number)
-Ahead at size Cut = Unit {0}
-Ahead at size Invalid = Unit {0}
+abbrev pub Ahead : ℕ → ℕ → Result Number NumberError → Type 0
+Ahead at size (Ok r) = (at < r.next) × (r.next ≤ size) × (r.value ≤ max_number)
+Ahead at size (Err e) = Unit {0}
 
 pub read_ahead : (bytes : List ℕ) (at : ℕ) → Ahead at (length bytes) (read_at max_groups max_number bytes at)
 unfolding read_at placed
@@ -37,9 +39,9 @@ read_ahead bytes at = go (read max_groups max_number (drop at bytes)) refl
     go invalid e = tt
 
 -- so by the reader's answer
-pub number_ahead : (bytes : List ℕ) (at : ℕ) {r : Decoded} {n next : ℕ} → r ≡ read_at max_groups max_number bytes at → r ≡ Number n next
-    → (at < next) × (next ≤ length bytes) × (n ≤ max_number)
-number_ahead bytes at e q = rw (sym e ∙ q) at (read_ahead bytes at)
+pub number_ahead : (bytes : List ℕ) (at : ℕ) {x : Number} → Ok x ≡ read_at max_groups max_number bytes at
+    → (at < x.next) × (x.next ≤ length bytes) × (x.value ≤ max_number)
+number_ahead bytes at e = rw (sym e) at (read_ahead bytes at)
 
 -- ALL NUMBERS. No bytes hold no number.
 read_none : (k : ℕ) → numbers_within k [] ≡ []
@@ -147,56 +149,52 @@ pub following_short : (bytes : List ℕ) → length (following (numbers_in bytes
 unfolding numbers_in
 following_short bytes = read_short (length bytes) bytes
 
--- The numbers up to position pos are written from place `at` of `old` on, which gives `text`, and `next` is the place behind them.
-pub record Shown (bytes old : List ℕ) (at : ℕ) (text : List ℕ) (next pos : ℕ) : Type 0 where
+-- The numbers up to position pos are put.
+pub record Shown (bytes : List ℕ) (old now : Writer) (pos : ℕ) : Type 0 where
   pub within : pos ≤ length bytes
   pub written : List ℕ
-  pub laid : Laid old at written text next
+  pub puts : Puts old now written
   pub whole : following (numbers_in bytes) ≡ written ++ following (numbers_in (drop pos bytes))
   pub short : length written ≤ number_most * pos
 
 -- at first none
-pub shown-none : (bytes old : List ℕ) (at : ℕ) → Shown bytes old at old at 0
-shown-none bytes old at =
-    record { within = zero-le; written = []; laid = laid_none old at; whole = refl; short = zero-le }
+pub shown-none : (bytes : List ℕ) (old : Writer) → Shown bytes old old 0
+shown-none bytes old = record { within = zero-le; written = []; puts = puts_none old; whole = refl; short = zero-le }
 
-module _ (bytes old : List ℕ) (at : ℕ) (room : at + number_most * length bytes + max_digits ≤ length old) (text : List ℕ) (next pos : ℕ)
-    (s : Shown bytes old at text next pos) where
-  -- what is written fits
-  fits : at + length s.written ≤ length old
+module _ {bytes : List ℕ} {old now : Writer} {pos : ℕ} (room : Room old (number_most * length bytes + max_digits)) (s : Shown bytes old now pos) where
+  -- what is put fits
+  fits : Room old (length s.written)
   fits = omega (arith, s.short, s.within)
 
-  pub shown-length : length text ≡ length old
-  shown-length = laid-length old at s.written text next fits s.laid
-
   -- there is room for a number that stands at the position
-  pub shown-room : pos < length bytes → next + 1 + max_digits ≤ length text
-  shown-room l = omega (arith, shown-length, s.laid.0, s.short)
+  pub shown-room : pos < length bytes → Room now (1 + max_digits)
+  shown-room l = omega (arith, s.puts.kept, s.puts.next, s.short)
 
   -- one number more
-  pub shown-more : {r : Decoded} {n pos' : ℕ} → r ≡ read_at max_groups max_number bytes pos → r ≡ Number n pos'
-      → (text' : List ℕ) (next' : ℕ) → Laid text next (spaced n) text' next' → Shown bytes old at text' next' pos'
-  shown-more {r} {n} {pos'} e q text' next' l =
-      let ahead = number_ahead bytes pos e q in
+  pub shown-more : {x : Number} → Ok x ≡ read_at max_groups max_number bytes pos
+      → {now' : Writer} → Puts now now' (spaced x.value) → Shown bytes old now' x.next
+  shown-more {x} e {now'} p =
+      let n : ℕ = x.value in
+      let pos' : ℕ = x.next in
+      let ahead = number_ahead bytes pos e in
       let first : numbers_in (drop pos bytes) ≡ n ∷ numbers_in (drop pos' bytes) =
-      numbers-first (drop pos bytes) n (drop pos' bytes) (number-answered bytes pos e q) in
+      numbers-first (drop pos bytes) n (drop pos' bytes) (number-answered bytes pos e) in
       record {
         within = ahead.1;
         written = s.written ++ spaced n;
-        laid = laid_more old at s.written text next fits s.laid (spaced n) text' next' l;
+        puts = puts_more fits s.puts p;
         whole = s.whole ∙ rw (first, following-first n (numbers_in (drop pos' bytes)), append_assoc);
         short = rw length-append (omega (arith, s.short, spaced_short n ahead.2));
       }
 
   -- all of them, where no number stands at the position
-  shown_rest : numbers_in (drop pos bytes) ≡ [] → Laid old at (following (numbers_in bytes)) text next
+  shown_rest : numbers_in (drop pos bytes) ≡ [] → Puts old now (following (numbers_in bytes))
   unfolding following concat_map
-  shown_rest e = let none : following (numbers_in bytes) ≡ s.written = s.whole ∙ rw (e, append-nil) in rw none s.laid
+  shown_rest e = let none : following (numbers_in bytes) ≡ s.written = s.whole ∙ rw (e, append-nil) in rw none s.puts
 
-  pub shown_stopped : {r r' : Decoded} {m : ℕ} → r ≡ read_at max_groups max_number bytes pos → r ≡ r' → number_of bytes r' ≡ unparsed m
-      → Laid old at (following (numbers_in bytes)) text next
-  shown_stopped e q u = shown_rest (numbers-none (drop pos bytes) _ (number-answered bytes pos e q ∙ u))
+  pub shown_stopped : {x : NumberError} → Err x ≡ read_at max_groups max_number bytes pos → Puts old now (following (numbers_in bytes))
+  shown_stopped e = shown_rest (numbers-none (drop pos bytes) _ (number-answered bytes pos e))
 
-  pub shown-all : length bytes ≤ pos → Laid old at (following (numbers_in bytes)) text next
+  pub shown-all : length bytes ≤ pos → Puts old now (following (numbers_in bytes))
   unfolding numbers_in
   shown-all l = shown_rest (ap numbers_in (drop_of_length-le bytes l) ∙ read_none 0)

@@ -1,17 +1,16 @@
 -- What a session says on standard error where its input stops being one (docs/SPEC.md, "Sessions"): a line with the position of the part
 -- that is refused, the refusal, and the refusal in words. Definitions, a sample by computation, and a statement of what is proved in
 -- proofs/said/Worded.antt.
-use Rattle.std.specs.Prelude.{◌≡◌, refl, List, [], ◌∷◌, ◌++◌, cond, ℕ, ◌+◌, ◌≤◌, length, eqb}
+use Rattle.std.specs.Prelude.{◌≡◌, refl, List, [], ◌∷◌, ◌++◌, cond, ℕ, ◌+◌, ◌≤◌, length, eqb, Result, Ok, Err}
 use Prim.Native.Char.{code}
 use Prim.Native.String.{String, [] as none, ◌∷◌ as ◌followedBy◌}
 use Rattle.model.specs.Limits.{office, session_capacity}
 use Rattle.model.specs.Area.{area_length}
+use Rattle.refusal.specs.declared.Refusal.{Refusal}
+use Rattle.refusal.specs.Numbers.{number_of}
 use Rattle.session.specs.text.Text.{line_feed, max_digits, digits, decimal}
 use Rattle.session.specs.declared.command.Command.{Command}
-use Rattle.session.specs.declared.command.Command.TheVariants.{Ended, Stopped, Take, Report}
 use Rattle.session.specs.command.Commands.{command_at}
-use Rattle.session.specs.declared.steps.Begun.{Begun}
-use Rattle.session.specs.declared.steps.Begun.TheVariants.{Refused, At}
 use Rattle.session.specs.steps.Effects.{start}
 use Rattle.session.specs.fault.Fault.{opening_fault}
 
@@ -44,15 +43,13 @@ abbrev pub said_most : ℕ
 said_most = 15 + max_digits + 15 + max_digits + 2 + longest_words + 1
 
 -- What is said of an opening, and of the command at a position: nothing where the session goes on, or is over with its input.
-unfoldable pub opening_said : List ℕ → Begun → List ℕ
-opening_said input (Refused k) = said_line (opening_fault input) k
-opening_said input (At at) = []
+unfoldable pub opening_said : List ℕ → Result ℕ Refusal → List ℕ
+opening_said input (Ok at) = []
+opening_said input (Err e) = said_line (opening_fault input) (number_of e)
 
-unfoldable pub command_said : ℕ → Command → List ℕ
-command_said at Ended = []
-command_said at (Stopped k) = said_line at k
-command_said at (Take step next) = []
-command_said at (Report next) = []
+unfoldable pub command_said : ℕ → Result Command Refusal → List ℕ
+command_said at (Ok c) = []
+command_said at (Err e) = said_line at (number_of e)
 
 -- The line of an unknown step at position 12.
 pub said_sample : said_line 12 8 ≡ ascii "sessions: byte 12: refused with 8: an unknown step\n"
@@ -62,6 +59,6 @@ said_sample = refl
 -- STATEMENT. Every refusal that ends a session has words: that of an opening, where the area has the length that the session's capacity
 -- needs, and that of a step.
 pub record Worded : Type 0 where
-  pub openings : (input area : List ℕ) (k : ℕ) → area_length office session_capacity ≤ length area → (start input area).answer ≡ Refused k
-      → words k ≡ [] → ⊥
-  pub steps : (input : List ℕ) (at k : ℕ) → command_at input at ≡ Stopped k → words k ≡ [] → ⊥
+  pub openings : (input area : List ℕ) (e : Refusal) → area_length office session_capacity ≤ length area → (start input area).answer ≡ Err e
+      → words (number_of e) ≡ [] → ⊥
+  pub steps : (input : List ℕ) (at : ℕ) (e : Refusal) → command_at input at ≡ Err e → words (number_of e) ≡ [] → ⊥

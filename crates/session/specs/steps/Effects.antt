@@ -1,48 +1,49 @@
 -- A session on bytes: opening it, and one step of it, by the calls on an area (document 01, "Sessions"). The input is read at
 -- positions; a step gets the area and the output as the last one left them. Assumes nothing: these are definitions.
-use Rattle.std.specs.Prelude.{List, cond, ℕ, ◌+◌, ◌-◌, length, get_or, take, drop, eqb, leb}
+use Rattle.std.specs.Prelude.{List, cond, ℕ, ◌+◌, ◌-◌, length, get_or, take, drop, eqb, leb, Result, Ok, Err}
 use Rattle.leb128.specs.Number.{max_groups, max_number}
 use Rattle.leb128.specs.Answer.{read_at}
-use Rattle.leb128.specs.declared.Decoded.{Decoded}
-use Rattle.leb128.specs.declared.Decoded.TheVariants.{Number, Cut, Invalid}
+use Rattle.leb128.specs.declared.Number.{Number}
+use Rattle.leb128.specs.declared.NumberError.{NumberError}
 use Rattle.model.specs.Limits.{office, max_session, session_capacity}
 use Rattle.model.specs.Call.{Outcome, call_open, call_report}
+use Rattle.refusal.specs.declared.Refusal.{Refusal}
+use Rattle.refusal.specs.declared.Refusal.TheVariants.{Cut, OutOfRange}
+use Rattle.refusal.specs.Numbers.{refusal_of, refused_number}
 use Rattle.calls.specs.Called.{call_step, answer_to}
 use Rattle.session.specs.declared.command.Command.{Command}
-use Rattle.session.specs.declared.command.Command.TheVariants.{Ended as NoMore, Stopped as Stop, Take, Report}
+use Rattle.session.specs.declared.command.Command.TheVariants.{Ended as NoMore, Take, Report}
 use Rattle.session.specs.command.Commands.{command_at}
-use Rattle.session.specs.declared.steps.Begun.{Begun}
-use Rattle.session.specs.declared.steps.Begun.TheVariants.{Refused as NotBegun, At}
 use Rattle.session.specs.declared.steps.Reply.{Reply}
 use Rattle.session.specs.declared.steps.Reply.TheVariants.{Ended, Stopped, Answered, NotReported, Reported}
 
 -- ---- OPENING.
 
--- What opening a session leaves: its answer and the area.
+-- What opening a session leaves: its answer, the position of the first step, and the area.
 pub record Start : Type 0 where
-  pub answer : Begun
+  pub answer : Result ℕ Refusal
   pub area : List ℕ
 
 -- a refusal that leaves the area
-unfoldable pub not_begun : List ℕ → ℕ → Start
-not_begun area n = record { answer = NotBegun n; area = area }
+unfoldable pub not_begun : List ℕ → Refusal → Start
+not_begun area e = record { answer = Err e; area = area }
 
 -- The outcome of opening the book that ends at a position.
 unfoldable pub begun : ℕ → Outcome → Start
-begun at o = record { answer = cond (eqb o.refusal 0) (At at) (NotBegun o.refusal); area = o.area }
+begun at o = record { answer = cond (eqb o.refusal 0) (Ok at) (Err (refusal_of o.refusal)); area = o.area }
 
 module _ (input area : List ℕ) where
   -- The book of the length that was read: 1 where the length is cut, 2 where it is not valid, 1 where it runs past the end of
   -- the input, before the book is read.
-  unfoldable pub open_book : Decoded → Start
-  open_book (Number n at) =
-      cond (leb n (length input - at)) (begun (at + n) (call_open office session_capacity (take n (drop at input)) area)) (not_begun area 1)
-  open_book Cut = not_begun area 1
-  open_book Invalid = not_begun area 2
+  unfoldable pub open_book : Result Number NumberError → Start
+  open_book (Ok r) =
+      cond (leb r.value (length input - r.next))
+      (begun (r.next + r.value) (call_open office session_capacity (take r.value (drop r.next input)) area)) (not_begun area Cut)
+  open_book (Err e) = not_begun area (refused_number e)
 
   -- Opening: 4 for a session that is too long, and then the book.
   unfoldable pub start : Start
-  start = cond (leb (length input) max_session) (open_book (read_at max_groups max_number input 0)) (not_begun area 4)
+  start = cond (leb (length input) max_session) (open_book (read_at max_groups max_number input 0)) (not_begun area OutOfRange)
 
 -- ---- A STEP.
 
@@ -54,7 +55,7 @@ pub record Effect : Type 0 where
 
 -- A report's answer by the outcome of its call: its length, or its refusal. In either case the session goes on.
 unfoldable pub reported_by : Outcome → ℕ → Reply
-reported_by o next = cond (eqb o.refusal 0) (Reported (get_or o.numbers 0 0) next) (NotReported o.refusal next)
+reported_by o next = cond (eqb o.refusal 0) (Reported (get_or o.numbers 0 0) next) (NotReported (refusal_of o.refusal) next)
 
 module _ (area out : List ℕ) where
   -- an answer that leaves area and output
@@ -62,11 +63,11 @@ module _ (area out : List ℕ) where
   still answer = record { answer = answer; area = area; output = out }
 
   -- The step that was asked for.
-  unfoldable pub perform : Command → Effect
-  perform NoMore = still Ended
-  perform (Stop n) = still (Stopped n)
-  perform (Take step next) = let o = call_step office step area in record { answer = Answered (answer_to step o) next; area = o.area; output = out }
-  perform (Report next) = let o = call_report office area out in record { answer = reported_by o next; area = o.area; output = o.output }
+  unfoldable pub perform : Result Command Refusal → Effect
+  perform (Ok NoMore) = still Ended
+  perform (Ok (Take step next)) = let o = call_step office step area in record { answer = Answered (answer_to step o) next; area = o.area; output = out }
+  perform (Ok (Report next)) = let o = call_report office area out in record { answer = reported_by o next; area = o.area; output = o.output }
+  perform (Err e) = still (Stopped e)
 
 -- The step at a position.
 unfoldable pub step_at : List ℕ → List ℕ → List ℕ → ℕ → Effect
@@ -75,12 +76,12 @@ step_at input area out at = perform area out (command_at input at)
 -- The position at which the session goes on after an answer, and `over` where it is over.
 unfoldable pub next_or : ℕ → Reply → ℕ
 next_or over Ended = over
-next_or over (Stopped n) = over
+next_or over (Stopped e) = over
 next_or over (Answered a next) = next
-next_or over (NotReported n next) = next
+next_or over (NotReported e next) = next
 next_or over (Reported n next) = next
 
 -- The position of the first step after an opening, and `over` where it was refused.
-unfoldable pub first_or : ℕ → Begun → ℕ
-first_or over (NotBegun n) = over
-first_or over (At at) = at
+unfoldable pub first_or : ℕ → Result ℕ Refusal → ℕ
+first_or over (Ok at) = at
+first_or over (Err e) = over

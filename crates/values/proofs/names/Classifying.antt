@@ -1,16 +1,13 @@
 -- Classes along the list: after k terms each of those has its class, and the pairs are the halves of the hashes of their keys.
 -- Assumes nothing.
-use Rattle.std.proofs.Common.{◌≡◌, ap, sym, ◌∙◌, List, ℕ, suc, ◌+◌, ◌/◌, ◌%◌, ◌≤◌, ◌<◌, not-suc-le-zero, add-one, arith, below_more, length, set, length-set}
+use Rattle.std.proofs.Common.{◌≡◌, ap, sym, ◌∙◌, List, ℕ, suc, ◌+◌, ◌/◌, ◌%◌, ◌≤◌, ◌<◌, add-one, arith, below_more, length, set, length-set}
 use Rattle.layout.specs.limits.Rows.{at, book_of, bound_of}
 use Rattle.pairs.specs.Index.{Room, Indexed, Pushed}
-use Rattle.pairs.specs.Lent.{SameSlices, IndexedIn}
-use Rattle.pairs.specs.declared.Index.{Index}
 use Rattle.pairs.proofs.Laws.{Holds, place-le, place-least, kept_holds, kept_set, holds-set}
 use Rattle.pairs.proofs.Rooms.{room_kept, room_fewer}
-use Rattle.values.specs.roots.Reading.{Listed}
-use Rattle.values.proofs.roots.Settled.{Filled, filled_none, filled_more, filled_all}
+use Rattle.values.proofs.roots.Settled.{Filled, filled_more, filled_all}
 use Rattle.values.specs.names.Keys.{key_at, hash_from}
-use Rattle.values.specs.names.Classes.{class_of, key_in, Classable, Scratch, SameClasses}
+use Rattle.values.specs.names.Classes.{class_of, key_in, Classable, SameClasses}
 use Rattle.values.proofs.names.ClassOf.{class_same, class_tells, class-lt, key_settled}
 
 -- the hash of the key of term t
@@ -29,16 +26,6 @@ pub record Classifying (rows bindings list : List ℕ) (n : ℕ) (classes₀ cla
   pub filled : Filled rows bindings list n (λ t w. w ≡ class_of rows bindings list n t) classes₀ classes k
 
 module _ {rows bindings list : List ℕ} {n : ℕ} {classes₀ : List ℕ} where
-  pub classifying_none : Listed rows bindings list n → {x y : Index} → Scratch classes₀ x.lefts.now x.rights.now x.cells.now n
-      → IndexedIn y 0 → SameSlices x y → Classifying rows bindings list n classes₀ classes₀ y.lefts.now y.rights.now y.cells.now 0
-  classifying_none listed scratch none same =
-      record {
-        room = room_kept scratch.room same.lefts_long same.rights_long same.cells_long;
-        indexed = none;
-        hashed = λ i l. absurd (not-suc-le-zero l);
-        filled = filled_none listed scratch.classes_fit;
-      }
-
   module _ {classes lefts rights cells : List ℕ} {k : ℕ}
       (c : Classifying rows bindings list n classes₀ classes lefts rights cells k) where
     -- at the end the classes are those of the values

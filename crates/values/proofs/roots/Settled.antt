@@ -1,6 +1,6 @@
 -- Along a list in which all that a value is made of comes first: a word for each term before a place of the list, of which
 -- something holds. Assumes nothing.
-use Rattle.std.proofs.Common.{◌≡◌, refl, ap, sym, ◌∙◌, List, ◌++◌, map, ℕ, ◌+◌, ◌≤◌, ◌<◌, zero-le, zero-add, not-suc-le-zero, arith, length, get_or, take, drop, set, take-append-drop, length-take, length-set, get_or-set_same, get_or-set_other, get_or-take, length-take-le, drop-set-lt}
+use Rattle.std.proofs.Common.{◌≡◌, ap, sym, ◌∙◌, List, ◌++◌, map, ℕ, ◌+◌, ◌≤◌, ◌<◌, zero-add, arith, length, get_or, take, drop, set, take-append-drop, length-take, length-set, get_or-set_same, get_or-set_other, get_or-take, length-take-le, drop-set-lt}
 use Rattle.std.proofs.Math.Decide.{ℕ_discrete}
 use Rattle.model.specs.Lists.{from}
 use Rattle.theory.proofs.Lists.Rows.{map-from}
@@ -86,17 +86,10 @@ pub record Filled (rows bindings list : List ℕ) (n : ℕ) (P : ℕ → ℕ →
   pub settled : Settled P list k words
 
 module _ {rows bindings list : List ℕ} {n : ℕ} {P : ℕ → ℕ → Type 0} {words₀ : List ℕ} where
-  pub filled_none : Listed rows bindings list n → n ≤ length words₀ → Filled rows bindings list n P words₀ words₀ 0
-  filled_none listed fits =
-      record { listed = listed; fits = fits; within = zero-le; size = refl; behind = refl; settled = λ i l. absurd (not-suc-le-zero l) }
-
   module _ {words : List ℕ} {k : ℕ} (h : Filled rows bindings list n P words₀ words k) where
-    -- the next term is one, each term has a word, and its word is written
+    -- the next term is one, and its word is written
     pub next-term : k < n → at list k < n
     next-term l = term-lt h.listed k l
-
-    pub next_reads : k < n → (at list k < n) × (n ≤ length words)
-    next_reads l = (next-term l, omega (arith, h.size, h.fits))
 
     pub next_fits : k < n → (k < length list) × (at list k < length words)
     next_fits l = (omega (arith, list-fits h.listed), omega (arith, next-term l, h.size, h.fits))

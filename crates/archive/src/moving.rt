@@ -14,8 +14,8 @@ ghost use Rattle.book.specs.decode.Rows.{book_rows};
 ghost use Rattle.book.specs.parse.Parts.{node_row};
 ghost use Rattle.archive.specs.moving.Moving.{RowMoves, RowsMove, moved_book};
 
-// What moving finds: whether each argument is then lower than its term (rule 5), and how many bytes the numbers take. Both hold
-// of every book that is moved, so this is no refusal beside a value.
+// What moving finds: whether each argument is then lower than its term (rule 5), and how many bytes the numbers take. No refusal
+// beside a value: the clauses of `move_terms` say the bytes and the rows of every book, also where an argument is not lower.
 #[derive(Clone, Copy)]
 pub struct Moved {
     pub lower: bool,

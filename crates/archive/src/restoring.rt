@@ -21,7 +21,7 @@ pub struct Restored {
 }
 
 // Decodes the book that the list restores, into the rows `moved`: the book's refusals, then the list's (1, 2, 3, 8, 14), then 5. After a
-// refusal nothing is promised of the slices.
+// refusal nothing is promised of the slices. They are parameters for the reason that `area::test::sound` has.
 fn decode_restored(
     lim: Limits,
     book: &[u8],

@@ -52,6 +52,7 @@ fn write_both(
 }
 
 // Stores a book, and gives the numbers of bytes written to each output: the book's refusals, then 13 where `out` or `list` is too short.
+// The slices are parameters for the reason that `area::test::sound` has.
 pub fn store(
     lim: Limits,
     book: &[u8],

@@ -17,7 +17,7 @@ use values::term::Terms;
 // Whether an area of any length and any bytes is sound; then the slices hold the words of its state, those of the entries at the
 // front of theirs, the list of its terms, what each stands for and its name. The index is scratch.
 // The slices are parameters here and in `calls`: a struct of them would be no plainer, since each contract on it would have to say that it
-// keeps the `&mut`, and no ghost field of it could say what they hold.
+// keeps the `&mut`, and what they hold is another thing after each test, so that no ghost field could say it.
 pub fn sound(
     lim: Limits,
     area: &[u8],

@@ -1,5 +1,5 @@
 // A reader of a term (document 01, "The shape of each place"): it is made where the term begins and moves on behind its head, in
-// document 01's order. Each function takes the reader apart and calls one of module parse on the slice and the position.
+// document 01's order. Its steps take it apart and call module parse on the slice and the position.
 // `read_term`, above them, has plain parameters.
 
 ghost use Rattle.std.specs.Prelude.{◌≡◌, ◌+◌, ◌*◌, ◌≤◌, length, drop, MatchResult};

@@ -2,7 +2,7 @@
 
 // An indexed list of pairs of numbers in lent slices: the first place of a pair, and one pair more (specs/Pairs.antt).
 // `lefts` and `rights` hold the pairs by place. Each bucket has a tree of places: `cells` holds a link for each bucket, and behind
-// them two for each place. A link is a place plus 1, or 0 for none (specs/Index.antt).
+// them two for each place. A link is a place plus 1, or 0 for none (specs/Index.antt): a word of a lent slice, which an Option does not fit.
 
 ghost use Rattle.std.specs.Prelude.{◌≡◌, suc};
 ghost use Rattle.pairs.specs.Pairs.{place_of};

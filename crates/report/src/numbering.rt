@@ -17,7 +17,7 @@ fn class_at(entries: &[u32], i: usize) -> u32
 }
 
 // The classes that are met of the table in the first `m` rows: the first `count` words of `met` are those so far, and `numbers` has for
-// each class its number plus 1, or 0.
+// each class its number plus 1, or 0: words of a lent slice, which an Option does not fit.
 #[derive(Drop)]
 struct Classes<'a> {
     entries: &'a [u32],

@@ -6,7 +6,7 @@ ghost use Rattle.session.specs.command.Commands.{command_numbers, asked_numbers,
 use refusal::Refusal;
 use step::answer::Step;
 
-// A command, with the position after it.
+// A command, with the position after it: a number, since what is said of a stop tells it.
 #[derive(Clone, Copy)]
 pub enum Command {
     // the input has ended

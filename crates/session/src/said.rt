@@ -49,7 +49,7 @@ fn put_said(line: &mut [u8], position: u32, refusal: Refusal) -> usize
     said.at
 }
 
-// Writes what is said of an opening to the front of `line`, and gives its length: 0 where it is accepted.
+// Writes what is said of an opening to the front of `line`, and gives its length: 0, a length as any other, where it is accepted.
 #[tactic(auto, unfolding(crate::specs::said::Said::opening_said))]
 pub fn of_opening(input: &[u8], begun: Result<usize, Refusal>, line: &mut [u8]) -> usize
     requires { said_most ≤ length line.old }

@@ -1,6 +1,6 @@
 // The test of same-as in a loaded table, and with it all tests that look at values and at pairs of entries, on names and roots that
-// are computed already (specs/kinds/Known.antt, specs/entries/SameAsTest.antt). They only read the table; `lefts`, `rights` and `cells`
-// are scratch.
+// are computed already (specs/kinds/Known.antt, specs/entries/SameAsTest.antt). They only read the table; the index is
+// scratch.
 
 ghost use Rattle.std.specs.Prelude.{◌≡◌, ◌&&◌, T};
 ghost use Rattle.model.specs.Lists.{all};

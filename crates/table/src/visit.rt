@@ -28,7 +28,7 @@ struct Arguments {
     count: usize,
 }
 
-// Whether an entry turned, and the number of entries after its visit.
+// Whether an entry turned, and the number of entries after its visit, which is also one where none turned.
 #[derive(Clone, Copy)]
 pub struct Visited {
     pub turned: bool,

@@ -19,7 +19,7 @@ pub struct Terms<'a> {
 }
 
 impl<'a> Terms<'a> {
-    // The symbol of the application `t`, or 0 of a variable.
+    // The first word of term `t`: 0 of a variable, and of an application its symbol plus 1.
     pub fn symbol(self, t: u32) -> u32
         requires { t < self.n }
         ensures { result ≡ at self.entry.rows.now (term_words * t) }

@@ -10,7 +10,7 @@ use layout::header::Header;
 use layout::limits::Limits;
 
 // Whether the header's numbers lie in their ranges and the area has the length that its capacity needs.
-#[tactic(auto, using(std::proofs::lemmas::Bool::Decides::nat_tests), unfolding(soundness::specs::sound::Sound::header_ok, model::specs::Area::area_length))]
+#[tactic(auto, unfolding(soundness::specs::sound::Sound::header_ok, model::specs::Area::area_length))]
 pub fn header_ok(lim: Limits, area: &[u8]) -> bool
     ensures { result ≡ header_ok (limits_of lim) area.now }
 {

@@ -1,5 +1,5 @@
 -- From a step's answer to the outcome of its call. Assumes nothing.
-use Rattle.std.proofs.Common.{◌≡◌, refl, ap, ◌∙◌, List, [], ◌∷◌, true, false, ℕ, ◌≤◌, Result, Ok, Err, length, replicate, ne_eqb}
+use Rattle.std.proofs.Common.{◌≡◌, refl, ap, ◌∙◌, List, true, false, ℕ, ◌≤◌, Result, Ok, Err, length, replicate, ne_eqb}
 use Rattle.model.specs.Limits.{Limits}
 use Rattle.model.specs.Lists.{concat_map}
 use Rattle.model.specs.Step.{State, Answer, refused, accepted}
@@ -16,7 +16,7 @@ use Rattle.refusal.specs.declared.Refusal.TheVariants.{NotSound}
 use Rattle.refusal.specs.Numbers.{number_of, number, refusal_of}
 use Rattle.refusal.proofs.Numbers.{none_is_zero}
 use Rattle.step.specs.declared.answer.Stepped.{Stepped}
-use Rattle.step.specs.answer.Stepped.{answer_of, entry_number, turned_number, appended_number, step_numbers, Gives}
+use Rattle.step.specs.answer.Stepped.{answer_of, step_numbers, Gives}
 use Rattle.step.specs.take.Taking.{step_of, stored_bytes}
 use Rattle.calls.specs.Called.{call_step, answer_to, Called}
 

@@ -6,12 +6,23 @@ ghost use Rattle.std.specs.Prelude.{◌≡◌, [], ◌∷◌};
 ghost use Rattle.model.specs.Limits.{office};
 ghost use Rattle.model.specs.Call.{call_open, call_add, call_bind, call_copy, call_entry, call_report, call_write};
 ghost use Rattle.model.specs.Archive.{call_store, call_restore};
+ghost use Rattle.refusal.specs.Numbers.{number, counted};
 ghost use Rattle.office.specs.opening.Offered.{needed_length};
 
+use refusal::Refusal;
 use step::answer::{Accepted, Step};
 
+// The answer of a call that writes bytes, for C: their number in `written`, 0 on a refusal, and the number of the refusal.
+fn count_out(answer: Result<u32, Refusal>, written: &mut u32) -> u32
+    ensures refusal { result ≡ number answer }
+    ensures written { written.new ≡ counted answer }
+{
+    *written = answer.unwrap_or(0);
+    refusal::number(answer)
+}
+
 // The length in bytes that an area of this capacity needs, 0 for a capacity out of range.
-#[tactic(auto, using(std::proofs::lemmas::Bool::Decides::nat_tests), unfolding(office::specs::opening::Offered::length_of, office::specs::opening::Offered::needed_length))]
+#[tactic(auto, unfolding(office::specs::opening::Offered::length_of, office::specs::opening::Offered::needed_length))]
 #[unsafe(no_mangle)]
 pub extern "C" fn fit_area_length(capacity: u32) -> usize
     ensures { result ≡ needed_length capacity }
@@ -78,9 +89,7 @@ pub extern "C" fn fit_copy_book(book: &[u8], out: &mut [u8], written: &mut u32) 
     ensures written { written.new ∷ [] ≡ (call_copy office book.now out.old).numbers }
     ensures output { out.new ≡ (call_copy office book.now out.old).output }
 {
-    let answer = office::copy::copy_book(book, out);
-    *written = answer.unwrap_or(0);
-    refusal::number(answer)
+    count_out(office::copy::copy_book(book, out), written)
 }
 
 // Stores a book: with its variables first in `out`, and in `list` the old number of each of its terms. The book's refusals, then 13 where
@@ -119,9 +128,7 @@ pub extern "C" fn fit_restore_book(
     ensures written { written.new ∷ [] ≡ (call_restore office book.now list.now out.old).numbers }
     ensures output { out.new ≡ (call_restore office book.now list.now out.old).output }
 {
-    let answer = office::restore::restore_book(book, list, out);
-    *written = answer.unwrap_or(0);
-    refusal::number(answer)
+    count_out(office::restore::restore_book(book, list, out), written)
 }
 
 // Reads an entry: 7 for an area that is not sound, 8 where there is no such entry. `fields` are left, right, kind, symbol, count,
@@ -148,9 +155,7 @@ pub extern "C" fn fit_write(area: &[u8], out: &mut [u8], written: &mut u32) -> u
     ensures written { written.new ∷ [] ≡ (call_write office area.now out.old).numbers }
     ensures output { out.new ≡ (call_write office area.now out.old).output }
 {
-    let answer = office::books::write(area, out);
-    *written = answer.unwrap_or(0);
-    refusal::number(answer)
+    count_out(office::books::write(area, out), written)
 }
 
 // Reports an area: 7 for an area that is not sound, then 13 where `out` is too short. `written` is the number of bytes written,
@@ -161,7 +166,5 @@ pub extern "C" fn fit_report(area: &[u8], out: &mut [u8], written: &mut u32) -> 
     ensures written { written.new ∷ [] ≡ (call_report office area.now out.old).numbers }
     ensures output { out.new ≡ (call_report office area.now out.old).output }
 {
-    let answer = office::reports::report(area, out);
-    *written = answer.unwrap_or(0);
-    refusal::number(answer)
+    count_out(office::reports::report(area, out), written)
 }

@@ -10,7 +10,7 @@ ghost use Rattle.office.specs.opening.Offered.{length_of};
 use refusal::Refusal;
 
 // The length in bytes that an area of this capacity needs; none for a capacity out of range.
-#[tactic(auto, using(std::proofs::lemmas::Bool::Decides::nat_tests), unfolding(crate::specs::opening::Offered::length_of))]
+#[tactic(auto, unfolding(crate::specs::opening::Offered::length_of))]
 pub fn area_length(capacity: u32) -> Option<usize>
     ensures { result ≡ length_of capacity }
 {

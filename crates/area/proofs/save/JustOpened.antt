@@ -1,7 +1,7 @@
 -- Laying the header and the term rows into an area and clearing the rest gives the bytes of a state just opened. Assumes
 -- nothing.
 use Rattle.std.proofs.Common.{◌≡◌, refl, ap, ◌∙◌, List, [], ◌∷◌, ◌++◌, map, append_assoc, ℕ, zero, suc, ◌+◌, ◌*◌, ◌-◌, ◌≤◌, zero-le, arith, length, drop, replicate, length-append, take_at, drop-drop, add-sub_of_le}
-use mathlib.Core.Option.{none}
+use Rattle.std.proofs.Math.Option.{none}
 use Rattle.std.proofs.Math.ListN.{length-replicate, replicate-append-replicate}
 use Rattle.model.specs.Limits.{Limits}
 use Rattle.model.specs.Lists.{concat_map, padded}

@@ -1,5 +1,5 @@
 -- The rows of an area's capacity, cut from a slice that has those of the largest. Assumes nothing.
-use Rattle.std.proofs.Common.{◌≡◌, sym, ap, ◌∙◌, List, ◌++◌, false, ℕ, ◌*◌, ◌≤◌, arith, length, take, drop, length-append, take-append-drop, take_at, length-take-le, T}
+use Rattle.std.proofs.Common.{◌≡◌, sym, ap, ◌∙◌, List, ◌++◌, false, ℕ, ◌*◌, ◌≤◌, arith, length, take, take_at, length-take-le, T}
 use Rattle.leb128.specs.Laws.{are_bytes}
 use Rattle.model.specs.Limits.{Limits}
 use Rattle.model.specs.Area.{word_size, header_words, entry_row_words, area_length, word, sound}

@@ -1,6 +1,6 @@
 -- What opening a book answers, case by case, from the outcome of the decoder. Assumes nothing.
 use Rattle.std.proofs.Common.{sym, Some, None, ◌≡◌, refl, ap, ◌∙◌, List, [], Bool, true, false, ◌&&◌, ℕ, ◌*◌, ◌≤◌, ◌<◌, length, leb, le-leb}
-use borrow.Author.Tests.{lt-leb}
+use Rattle.std.proofs.lemmas.Bool.{lt-leb}
 use Rattle.model.specs.Limits.{office}
 use Rattle.model.specs.Lists.{concat_map}
 use Rattle.model.specs.BookBytes.{parse_book}

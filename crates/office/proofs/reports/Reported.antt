@@ -1,5 +1,5 @@
 -- Reporting an area: what was read of it tells its state, and what is emitted of it is the outcome of the call. Assumes nothing.
-use Rattle.std.proofs.Common.{◌≡◌, refl, List, [], true, false, ℕ, ◌*◌, ◌≤◌, arith, length, take, length-take}
+use Rattle.std.proofs.Common.{◌≡◌, refl, List, [], true, false, ℕ, ◌*◌, arith, take}
 use Rattle.model.specs.Limits.{office}
 use Rattle.model.specs.Area.{entry_row_words, word, sound, state_of}
 use Rattle.model.specs.Report.{report_bytes}
@@ -11,7 +11,6 @@ use Rattle.runs.proofs.Emitted.{tested_seven, tested_written}
 use Rattle.area.specs.load.Loading.{header_of}
 use Rattle.area.specs.load.Ready.{Ready}
 use Rattle.area.proofs.test.Tested.{table-known}
-use Rattle.area.proofs.load.Uses.{read_facts, read-entries}
 use Rattle.report.specs.write.Shown.{Told}
 use Rattle.office.specs.read.Viewed.{Viewed}
 

@@ -21,13 +21,44 @@ pub struct Index<'a> {
     pub cells: &'a mut [u32],
 }
 
+// The slices of an index, lent to be read: they may be lent elsewhere too, and one slice as two of them.
+#[derive(Clone, Copy)]
+pub struct Lookup<'a> {
+    pub lefts: &'a [u32],
+    pub rights: &'a [u32],
+    pub cells: &'a [u32],
+}
+
+impl Lookup<'_> {
+    // The first place of (a, b) among the first `count` pairs, or else `count`.
+    pub fn find(self, count: usize, a: u32, b: u32) -> usize
+        requires { Indexed self.lefts.now self.rights.now self.cells.now count }
+        ensures { result ≡ place_of self.entry.lefts.now self.entry.rights.now count a b }
+    {
+        search(self.lefts, self.rights, self.cells, count, a, b).place
+    }
+}
+
 impl Index<'_> {
+    // The same slices, to be read.
+    pub fn lookup(&self) -> Lookup<'_>
+        ensures lefts { result.lefts.now ≡ self.now.lefts.now }
+        ensures rights { result.rights.now ≡ self.now.rights.now }
+        ensures cells { result.cells.now ≡ self.now.cells.now }
+    {
+        Lookup {
+            lefts: self.lefts,
+            rights: self.rights,
+            cells: self.cells,
+        }
+    }
+
     // The first place of (a, b) among the first `count` pairs, or else `count`.
     pub fn find(&self, count: usize, a: u32, b: u32) -> usize
         requires { IndexedIn self.now count }
         ensures { result ≡ place_of self.now.lefts.now self.now.rights.now count a b }
     {
-        search(self.lefts, self.rights, self.cells, count, a, b).place
+        self.lookup().find(count, a, b)
     }
 
     // Puts (a, b) at place `count`, and answers its first place: an older one, or else `count`, to which a link goes then.

@@ -27,7 +27,7 @@ pub fn walk_and_settle(
     let m = h.entries as usize;
     let w = table::saturate::walk(terms, entries, capacity, m, index)?;
     let count = w.count;
-    table::same_as::settle(entries, count, index);
+    table::same_as::settle(entries, count, index.lookup());
     Ok(Stepped {
         accepted: Accepted::Bound {
             turned: w.turned as u32,

@@ -5,12 +5,12 @@ ghost use Rattle.model.specs.Table.{settle};
 ghost use Rattle.table.specs.place.Stands.{HoldsTable, GivenTable, Whatever};
 ghost use Rattle.table.specs.same_as.Settling.{ToSettleIn};
 
-use pairs::Index;
+use pairs::Lookup;
 
 // Sets same-as of the `m` entries: of each, the first entry with its two names.
-pub fn settle(entries: &mut [u32], m: usize, index: &Index)
-    requires { GivenTable (ToSettleIn entries.old index.now m) }
-    ensures { Whatever (ToSettleIn entries.old index.now m)
+pub fn settle(entries: &mut [u32], m: usize, index: Lookup)
+    requires { GivenTable (ToSettleIn entries.old index m) }
+    ensures { Whatever (ToSettleIn entries.old index.entry m)
         (λ b β es. HoldsTable entries.new (settle b β es)) }
 {
     for i in 0..m {

@@ -4,7 +4,7 @@ use Rattle.model.specs.Term.{Book, Bindings}
 use Rattle.model.specs.Table.{Table}
 use Rattle.table.specs.place.Stands.{HoldsTable}
 use Rattle.table.specs.index.Indexing.{IsIndexed}
-use Rattle.pairs.specs.declared.Index.{Index}
+use Rattle.pairs.specs.declared.Lookup.{Lookup}
 
 -- An indexed table of m entries whose same-as is to be set.
 pub record ToSettle (entries lefts rights cells : List ℕ) (m : ℕ) (b : Book) (β : Bindings) (es : Table) : Type 0 where
@@ -12,6 +12,6 @@ pub record ToSettle (entries lefts rights cells : List ℕ) (m : ℕ) (b : Book)
   pub held : HoldsTable entries es
   pub is-indexed : IsIndexed lefts rights cells m b β es
 
--- The same, of what the index lends.
-abbrev pub ToSettleIn : List ℕ → Index → ℕ → Book → Bindings → Table → Type 0
+-- The same, of an index lent to be read.
+abbrev pub ToSettleIn : List ℕ → Lookup → ℕ → Book → Bindings → Table → Type 0
 ToSettleIn entries x = ToSettle entries x.lefts.now x.rights.now x.cells.now

@@ -17,4 +17,6 @@ pub overflow_sub-result : goal.overflow_sub-result
 overflow_sub-result c = omega (arith, (ranges c.args.h c.in_ok-w.ensures.walked c.requires).longer)
 
 pub returns-clause-settled : goal.returns-clause-settled
-returns-clause-settled c = walked_settled c.args.h c.in_ok-w.ensures.walked c.settle.ensures
+returns-clause-settled c =
+    let lent = c.lookup.ensures in
+    walked_settled c.args.h c.in_ok-w.ensures.walked (rw (lent.lefts, lent.rights, lent.cells) at c.settle.ensures)

@@ -32,10 +32,13 @@ abbrev pub refused_number : NumberError → Refusal
 refused_number NumberCut = Cut
 refused_number Invalid = BadNumber
 
--- The number of an answer: 0 where nothing is refused.
+-- The number of an answer, by the number of each refusal: 0 where nothing is refused.
+abbrev pub number_by : {A E : Type 0} → (E → ℕ) → Result A E → ℕ
+number_by of (Ok x) = 0
+number_by of (Err e) = of e
+
 abbrev pub number : {A : Type 0} → Result A Refusal → ℕ
-number (Ok x) = 0
-number (Err r) = number_of r
+number answer = number_by number_of answer
 
 -- The count of an answer that has one: 0 where it is refused.
 abbrev pub counted : Result ℕ Refusal → ℕ

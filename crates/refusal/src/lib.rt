@@ -2,8 +2,8 @@
 
 // Why a book, a list, a step or a session is refused, with document 01's numbers ("Turned down"; include/fit.h has the same names).
 
-ghost use Rattle.std.specs.Prelude.{◌≡◌};
-ghost use Rattle.refusal.specs.Numbers.{number_of, refused_number, number};
+ghost use Rattle.std.specs.Prelude.{◌≡◌, ℕ};
+ghost use Rattle.refusal.specs.Numbers.{number_of, refused_number, number_by};
 
 use leb128::NumberError;
 
@@ -66,12 +66,38 @@ impl From<Refusal> for u32 {
     }
 }
 
+// What is told by a number: a `Refusal`, and any number, by itself. What prints a refusal or says it takes either; what refuses gives a
+// `Refusal`. A trait of its own: `From` says by a relation what it gives, and definitions go by the number.
+pub trait Numbered: Copy {
+    ghost its_number: { Self → ℕ };
+
+    fn number(self) -> u32
+        ensures { result ≡ its_number self };
+}
+
+impl Numbered for Refusal {
+    ghost its_number = { number_of };
+
+    fn number(self) -> u32 {
+        u32::from(self)
+    }
+}
+
+impl Numbered for u32 {
+    ghost its_number = { λ n. n };
+
+    fn number(self) -> u32 {
+        self
+    }
+}
+
 // The number that a call gives for an answer: 0 where nothing is refused.
-pub fn number<T: Drop>(answer: Result<T, Refusal>) -> u32
-    ensures { result ≡ number answer }
+pub fn number<T: Drop, E: Numbered>(answer: Result<T, E>) -> u32
+    ensures { result ≡ number_by E.its_number answer }
 {
     match answer {
-        Ok(_) => 0,
-        Err(refusal) => u32::from(refusal),
+        // a name, since the check doesn't cover `_` here: two arms that hold different parts of the answer
+        Ok(_accepted) => 0,
+        Err(refusal) => refusal.number(),
     }
 }

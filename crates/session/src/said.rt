@@ -3,46 +3,43 @@
 
 ghost use Rattle.std.specs.Prelude.{◌≡◌, ◌++◌, ◌≤◌, length, drop};
 ghost use Rattle.model.specs.Limits.{max_session};
-ghost use Rattle.refusal.specs.Numbers.{number_of};
 ghost use Rattle.session.specs.command.Commands.{command_at};
-ghost use Rattle.session.specs.said.Said.{words, said_line, said_most, opening_said, command_said};
+ghost use Rattle.session.specs.said.Said.{words, said_line, said_most, opening_said_by, command_said};
 
 use crate::text::Writer;
-use refusal::Refusal;
+use refusal::Numbered;
 
 // The most bytes of a line.
 pub const MOST: usize = 144;
 
-// A refusal in words.
+// A refusal in words, by its number: any number can be asked for.
 #[tactic(auto, using(crate::proofs::said::Saying::no_words), unfolding(crate::specs::said::Said::words, crate::specs::said::Said::ascii))]
-fn words(refusal: Refusal) -> &'static [u8]
-    ensures { result.now ≡ words (number_of refusal) }
+fn words(refusal: u32) -> &'static [u8]
+    ensures { result.now ≡ words refusal }
 {
     match refusal {
-        Refusal::Cut =>
-            b"the bytes end too early: within a number, before one, or before the end of the book",
-        Refusal::BadNumber =>
-            b"a number not in shortest form, of more than three bytes, or above 65,535",
-        Refusal::LeftOver => b"bytes after the last term of the book",
-        Refusal::OutOfRange =>
+        1 => b"the bytes end too early: within a number, before one, or before the end of the book",
+        2 => b"a number not in shortest form, of more than three bytes, or above 65,535",
+        3 => b"bytes after the last term of the book",
+        4 =>
             b"a number of terms, a symbol or a count out of range, or a session of more than 65,536 bytes",
-        Refusal::NotLower => b"an argument that is not lower than its term",
-        Refusal::NamesNothing => b"an unknown step",
+        5 => b"an argument that is not lower than its term",
+        8 => b"an unknown step",
         _ => b"",
     }
 }
 
 // Writes the line of a position and a refusal to the front of `line`, and gives its length.
-fn put_said(line: &mut [u8], position: u32, refusal: Refusal) -> usize
+fn put_said(line: &mut [u8], position: u32, refusal: u32) -> usize
     requires { said_most ≤ length line.old }
-    ensures count { result ≡ length (said_line position (number_of refusal)) }
-    ensures bytes { line.new ≡ said_line position (number_of refusal) ++ drop result line.old }
+    ensures count { result ≡ length (said_line position refusal) }
+    ensures bytes { line.new ≡ said_line position refusal ++ drop result line.old }
 {
     let mut said = Writer { text: line, at: 0 };
     said.put_bytes(b"sessions: byte ");
     said.put_decimal(position);
     said.put_bytes(b": refused with ");
-    said.put_decimal(u32::from(refusal));
+    said.put_decimal(refusal);
     said.put_bytes(b": ");
     said.put_bytes(words(refusal));
     said.end_line();
@@ -50,14 +47,18 @@ fn put_said(line: &mut [u8], position: u32, refusal: Refusal) -> usize
 }
 
 // Writes what is said of an opening to the front of `line`, and gives its length: 0, a length as any other, where it is accepted.
-#[tactic(auto, unfolding(crate::specs::said::Said::opening_said))]
-pub fn of_opening(input: &[u8], begun: Result<usize, Refusal>, line: &mut [u8]) -> usize
+#[tactic(auto, unfolding(crate::specs::said::Said::opening_said_by))]
+pub fn of_opening<E: Numbered>(input: &[u8], begun: Result<usize, E>, line: &mut [u8]) -> usize
     requires { said_most ≤ length line.old }
-    ensures count { result ≡ length (opening_said input.now begun) }
-    ensures bytes { line.new ≡ opening_said input.now begun ++ drop result line.old }
+    ensures count { result ≡ length (opening_said_by E.its_number input.now begun) }
+    ensures bytes { line.new ≡ opening_said_by E.its_number input.now begun ++ drop result line.old }
 {
     match begun {
-        Err(refusal) => put_said(line, crate::fault::opening_fault(input) as u32, refusal),
+        Err(refusal) => put_said(
+            line,
+            crate::fault::opening_fault(input) as u32,
+            refusal.number(),
+        ),
         Ok(_) => 0,
     }
 }
@@ -70,7 +71,7 @@ pub fn of_command(input: &[u8], at: usize, line: &mut [u8]) -> usize
     ensures bytes { line.new ≡ command_said at (command_at input.now at) ++ drop result line.old }
 {
     match crate::command::command_at(input, at) {
-        Err(refusal) => put_said(line, at as u32, refusal),
+        Err(refusal) => put_said(line, at as u32, refusal.number()),
         Ok(_) => 0,
     }
 }

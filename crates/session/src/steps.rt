@@ -16,21 +16,22 @@ pub const LONGEST: usize = 65536;
 
 pub const CAPACITY: u32 = 1024;
 
-// What a step answers. The session goes on at `next`; it is over where there is none.
+// What a step answers. The session goes on at `next`; it is over where there is none. A step refuses with a `Refusal`; any other number is
+// printed as well (printing::lines).
 #[derive(Clone, Copy)]
-pub enum Reply {
+pub enum Reply<E = Refusal> {
     // the input has ended
     Ended,
     // a bad or cut number, or an unknown step
-    Stopped(Refusal),
+    Stopped(E),
     // a step that was taken or refused
     Answered {
-        answer: Result<Accepted, Refusal>,
+        answer: Result<Accepted, E>,
         next: usize,
     },
     // a refused report
     NotReported {
-        refusal: Refusal,
+        refusal: E,
         next: usize,
     },
     // a report, in the first bytes of the output

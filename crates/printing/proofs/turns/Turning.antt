@@ -26,7 +26,7 @@ use Rattle.session.specs.declared.steps.Reply.{Reply}
 use Rattle.session.specs.declared.steps.Reply.TheVariants.{Answered, NotReported, Reported}
 use Rattle.session.specs.steps.Effects.{Effect, still, perform, reported_by, step_at, next_or}
 use Rattle.session.proofs.steps.Stepping.{by_command, Takes}
-use Rattle.session.specs.steps.Lines.{lines}
+use Rattle.session.specs.steps.Lines.{lines_by, lines}
 use Rattle.std.specs.Prelude.{Option, None, Some, Result, Ok, Err}
 use Rattle.printing.specs.declared.turns.Shown.{Shown}
 use Rattle.printing.specs.declared.turns.Shown.TheVariants.{Line, Report as ShownReport}
@@ -34,7 +34,7 @@ use Rattle.printing.specs.turns.Turns.{printed, Front, buffer_of, size_of, KeptR
 use Rattle.printing.proofs.turns.Again.{report_again}
 
 -- TEXT. The line of an answer goes to the front of a buffer, as module lines has it.
-abbrev Puts : Reply → List ℕ → List ℕ → List ℕ → ℕ → Type 0
+abbrev Puts : Reply Refusal → List ℕ → List ℕ → List ℕ → ℕ → Type 0
 Puts answer out buffer end n = let bytes = lines_text (lines answer out) in (n ≡ length bytes) × (end ≡ bytes ++ drop n buffer)
 
 at_front : (buffer end : List ℕ) (n : ℕ) (bytes : List ℕ) → (n ≡ length bytes) × (end ≡ bytes ++ drop n buffer) → Front end n bytes
@@ -42,7 +42,7 @@ at_front buffer end n bytes f =
     rw f.1 (omega (arith, f.0, length-append bytes (drop n buffer)), take_at bytes (drop n buffer) n (sym f.0))
 
 -- so it is what the step prints
-shows : (s : Effect) {answer : Reply} {area' out' : List ℕ} → Takes answer area' out' s → (buffer end : List ℕ) (n : ℕ)
+shows : (s : Effect) {answer : Reply Refusal} {area' out' : List ℕ} → Takes answer area' out' s → (buffer end : List ℕ) (n : ℕ)
     → Puts answer out' buffer end n → Front end n (printed s)
 unfolding printed
 shows s {answer} {area'} {out'} t buffer end n f =
@@ -61,7 +61,7 @@ module _ (o : Outcome) (next over : ℕ) where
 
   line_at : (out : List ℕ) (next' : ℕ) (t : Bool) (accepted : ℕ) (refusal : Refusal)
       → lines (cond t (Reported accepted next) (NotReported refusal next)) out ≡ lines (cond t (Reported accepted next') (NotReported refusal next')) out
-  unfolding lines
+  unfolding lines_by
   line_at out next' true accepted refusal = refl
   line_at out next' false accepted refusal = refl
 
@@ -141,7 +141,7 @@ module _ (input area out : List ℕ) (at : ℕ) where
         })
 
     -- a report that is made
-    pub report_made : {answer : Reply} {area' out' : List ℕ} → Takes answer area' out' (step_at input area out at)
+    pub report_made : {answer : Reply Refusal} {area' out' : List ℕ} → Takes answer area' out' (step_at input area out at)
         → {end : List ℕ} {size : ℕ} → Puts answer out' report end size
         → Turned area' out' end text next (ShownReport size) (Some size) (length input) (step_at input area out at)
     unfolding perform
@@ -157,7 +157,7 @@ module _ (input area out : List ℕ) (at : ℕ) where
         }
 
   -- any other step
-  module _ {answer : Reply} {area' out' : List ℕ} (t : Takes answer area' out' (step_at input area out at)) (text : List ℕ) {end : List ℕ} {size : ℕ}
+  module _ {answer : Reply Refusal} {area' out' : List ℕ} (t : Takes answer area' out' (step_at input area out at)) (text : List ℕ) {end : List ℕ} {size : ℕ}
       (f : Puts answer out' text end size) {next : ℕ} (g : next ≡ next_or (length input) answer) (report : List ℕ) where
     -- keeps nothing
     pub step_taken : Turned area' out' report end next (Line size) None (length input) (step_at input area out at)

@@ -93,7 +93,7 @@ turn_by_turn =
 
 module _ (input : List ℕ) where
   -- a session that is over stands at the end of the input, where nothing follows
-  over-after : (a : Reply) (f : ℕ → Printed) → f (length input) ≡ [] → onward a f ≡ f (next_or (length input) a)
+  over-after : (a : Reply Refusal) (f : ℕ → Printed) → f (length input) ≡ [] → onward a f ≡ f (next_or (length input) a)
   unfolding onward next_or
   over-after Ended f e = sym e
   over-after (Stopped n) f e = sym e

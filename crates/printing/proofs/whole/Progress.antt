@@ -19,12 +19,12 @@ use Rattle.session.proofs.command.Progress.{commands_go_on}
 use Rattle.session.specs.declared.steps.Reply.{Reply}
 use Rattle.session.specs.declared.steps.Reply.TheVariants.{Ended, Stopped, Answered, NotReported, Reported}
 use Rattle.session.specs.steps.Effects.{still, perform, reported_by, step_at, next_or}
-use Rattle.session.specs.steps.Lines.{lines}
+use Rattle.session.specs.steps.Lines.{lines_by, lines}
 use Rattle.printing.specs.whole.Whole.{Onward, onward, steps_from, all_steps, OneByOne, StepsGoOn}
 
 module _ (p n : ℕ) where
   -- a report's answer goes on at the position given
-  goes_answer : (next : ℕ) (refusal : Refusal) (accepted : Reply) (t : Bool) → (p < next) × (next ≤ n) → Onward p n accepted
+  goes_answer : (next : ℕ) (refusal : Refusal) (accepted : Reply Refusal) (t : Bool) → (p < next) × (next ≤ n) → Onward p n accepted
       → Onward p n (cond t accepted (NotReported refusal next))
   goes_answer next refusal accepted true h k = k
   goes_answer next refusal accepted false h k = h
@@ -45,12 +45,12 @@ steps_go_on input at area out = goes_performed at (length input) area out (comma
 module _ (input : List ℕ) where
   -- past the end there is nothing
   pub past_end : (k at : ℕ) (area out : List ℕ) → length input ≤ at → steps_from input k at area out ≡ []
-  unfolding steps_from step_at command_at perform still lines onward
+  unfolding steps_from step_at command_at perform still lines_by onward
   past_end zero at area out l = refl
   past_end (suc k) at area out l = rw (le-ltb at (length input) l)
 
   -- what follows an answer is the same where it is at every position behind
-  onward-same : (p n : ℕ) (a : Reply) (f g : ℕ → Printed) → Onward p n a → ((next : ℕ) → p < next → next ≤ n → f next ≡ g next)
+  onward-same : (p n : ℕ) (a : Reply Refusal) (f g : ℕ → Printed) → Onward p n a → ((next : ℕ) → p < next → next ≤ n → f next ≡ g next)
       → onward a f ≡ onward a g
   unfolding onward
   onward-same p n Ended f g o h = refl
@@ -77,7 +77,7 @@ one_by_one input at area out =
     steps_enough input (length input) (suc (length input)) at area out (omega arith) (omega arith)
 
 -- so the position at which a step leaves a session lies behind, and the end of the input where the session is over
-pub goes_behind : (p n : ℕ) (a : Reply) → Onward p n a → p < n → (p < next_or n a) × (next_or n a ≤ n)
+pub goes_behind : (p n : ℕ) (a : Reply Refusal) → Onward p n a → p < n → (p < next_or n a) × (next_or n a ≤ n)
 unfolding next_or
 goes_behind p n Ended o h = (h, omega arith)
 goes_behind p n (Stopped k) o h = (h, omega arith)

@@ -44,7 +44,7 @@ use Rattle.session.specs.declared.command.Command.TheVariants.{Take, Report}
 use Rattle.session.specs.command.Commands.{or_stopped, with_number, with_two, by_number, command_at}
 use Rattle.session.specs.declared.steps.Reply.TheVariants.{Answered}
 use Rattle.session.specs.steps.Effects.{Effect, still, perform, reported_by, step_at}
-use Rattle.session.specs.steps.Lines.{answer_line, lines}
+use Rattle.session.specs.steps.Lines.{answer_line_by, lines_by, answer_line, lines}
 use Rattle.printing.specs.whole.Whole.{onward, steps_from}
 use Rattle.printing.proofs.whole.Progress.{past_end}
 
@@ -97,7 +97,7 @@ module _ (input : List ℕ) (k : ℕ)
         → let answer = Answered (cond (eqb o.refusal 0) (Ok accepting) (Err (named o.refusal))) at in
         Model.answered s a (λ s'. steps k s' (drop at input)) ≡
         lines answer out ++ onward answer (λ next. steps_from input k next o.area out)
-    unfolding Model.answered lines answer_line onward
+    unfolding Model.answered lines_by answer_line_by onward
     same_answer (refused n) o accepting at h =
         rw (h.refusal, refusal_zero (refused n) h.numbered, h.told) (ap (λ x. (n ∷ []) ∷ x) (ih at s o.area out h.after-held))
     same_answer (accepted ns s') o accepting at h =
@@ -115,7 +115,7 @@ module _ (input : List ℕ) (k : ℕ)
     -- a line
     same_added : (l r at : ℕ) → Model.answered s (add_line office s l r) (λ s'. steps k s' (drop at input)) ≡
         shows (Ok (Take (Add l r) at))
-    unfolding perform call_step answer_to accepted_as call lines answer_line onward
+    unfolding perform call_step answer_to accepted_as call lines_by answer_line_by onward
     same_added l r at =
         let o : Outcome = call_add office area l r in
         let on : o ≡ stepped office 1 area (add_line office s l r) = call_lives office office-modest s area (add l r) held.lives in
@@ -133,7 +133,7 @@ module _ (input : List ℕ) (k : ℕ)
     -- a choice
     same-bound : (v t at : ℕ) → Model.answered s (bind s v t) (λ s'. steps k s' (drop at input)) ≡
         shows (Ok (Take (Bind v t) at))
-    unfolding perform call_step answer_to accepted_as call lines answer_line onward
+    unfolding perform call_step answer_to accepted_as call lines_by answer_line_by onward
     same-bound v t at =
         let o : Outcome = call_bind office area v t in
         let on : o ≡ stepped office 2 area (bind s v t) = call_lives office office-modest s area (fix v t) held.lives in
@@ -178,14 +178,14 @@ module _ (input : List ℕ) (k : ℕ)
         }
 
     same-report : (at : ℕ) → (0 ∷ report s) ∷ steps k s (drop at input) ≡ shows (Ok (Report at))
-    unfolding perform reported_by lines onward accept
+    unfolding perform reported_by lines_by onward accept
     same-report at =
         rw (report-outcome, report-numbers) (ap (λ x. (0 ∷ report s) ∷ x) (ih at s area (over (report_bytes s) out) report-held))
 
     -- NUMBERS. What follows a number.
     same_number : (d : Result Number NumberError) (f : ℕ → List ℕ → Printed) (g : ℕ → ℕ → Result Command Refusal)
         → ((n next : ℕ) → f n (drop next input) ≡ shows (g n next)) → Model.or_stop (read_of input d) f ≡ shows (or_stopped d g)
-    unfolding Model.or_stop or_stopped perform still lines onward
+    unfolding Model.or_stop or_stopped perform still lines_by onward
     same_number (Ok r) f g h = h r.value r.next
     same_number (Err e) f g h = refl
 
@@ -202,7 +202,7 @@ module _ (input : List ℕ) (k : ℕ)
 
     -- a step by its number
     same_by_number : (n at : ℕ) → Model.step (steps k) s n (drop at input) ≡ shows (by_number input n at)
-    unfolding Model.step by_number perform still lines onward
+    unfolding Model.step by_number perform still lines_by onward
     same_by_number zero at = refl
     same_by_number (suc zero) at =
         two_at at (λ l r rest. Model.answered s (add_line office s l r) (λ s'. steps k s' rest)) (λ l r next. Ok (Take (Add l r) next)) same_added

@@ -31,7 +31,7 @@ use Rattle.theory.proofs.Book.Opening.{book-refused, book_positive, opens_by_boo
 use Rattle.book.proofs.reader.Below.{number_of as read_of, number_read}
 use Rattle.session.proofs.steps.Told.{book_told}
 use Rattle.session.specs.steps.Effects.{Start, not_begun, begun, open_book, start}
-use Rattle.session.specs.steps.Lines.{opening_line}
+use Rattle.session.specs.steps.Lines.{opening_line_by, opening_line}
 use Rattle.printing.specs.whole.Whole.{after_opening, all_steps, session_on_bytes, SessionOnBytes, CutTooLong}
 use Rattle.printing.proofs.whole.Progress.{steps_enough}
 use Rattle.printing.proofs.whole.Steps.{Carries, same-steps}
@@ -53,7 +53,7 @@ module _ (input area out : List ℕ) (long : area_length office session_capacity
   -- by what the book's bytes give
   same-parsed : (book : List ℕ) (at : ℕ) (p : Parsed Book) → parse_book office book ≡ p
       → begin p (drop at input) ≡ shown (begun at (open_parsed office session_capacity area p))
-  unfolding begin begun open_parsed accept refuse opening_line after_opening all_steps opened
+  unfolding begin begun open_parsed accept refuse opening_line_by after_opening all_steps opened
   same-parsed book at (parsed b rest) e =
       let s : State = opened b session_capacity in
       let f : SoundFacts office s = opened-sound office book b rest session_capacity (omega arith) (omega arith) e in
@@ -67,7 +67,7 @@ module _ (input area out : List ℕ) (long : area_length office session_capacity
 
   -- by the length that was read
   same-book : (d : Result Number NumberError) → Model.or_stop (read_of input d) with_length ≡ shown (open_book input area d)
-  unfolding Model.or_stop with_length open_book not_begun opening_line after_opening
+  unfolding Model.or_stop with_length open_book not_begun opening_line_by after_opening
   same-book (Ok r) =
       let book : List ℕ = take n (drop at input) in
       rw (length-drop, drop-drop, opens_by_book office session_capacity book area (omega arith, omega arith, long)) (go (leb n (length input - at)))
@@ -86,7 +86,7 @@ module _ (input area out : List ℕ) (long : area_length office session_capacity
   same-book (Err Invalid) = refl
 
 pub session_on_bytes_lem : SessionOnBytes
-unfolding session_on_bytes session start not_begun opening_line after_opening
+unfolding session_on_bytes session start not_begun opening_line_by after_opening
 session_on_bytes_lem input area out long room = sym (go (leb (length input) max_session))
   where
     go : (t : Bool) → cond t (Model.or_stop (parse_number input) with_length) ((4 ∷ []) ∷ []) ≡

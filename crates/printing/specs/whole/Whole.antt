@@ -12,7 +12,7 @@ use Rattle.session.specs.steps.Effects.{start, step_at}
 use Rattle.session.specs.steps.Lines.{opening_line, lines}
 
 -- What follows an answer, with the position at which the session goes on; nothing where it is over.
-unfoldable pub onward : Reply → (ℕ → Printed) → Printed
+unfoldable pub onward : Reply Refusal → (ℕ → Printed) → Printed
 onward Ended then = []
 onward (Stopped e) then = []
 onward (Answered a next) then = then next
@@ -57,7 +57,7 @@ abbrev pub CutTooLong : Type 0
 CutTooLong = (input : List ℕ) → session (take (suc max_session) input) ≡ session input
 
 -- The position at which an answer leaves the session, if any, lies behind the position p and within n bytes.
-abbrev pub Onward : ℕ → ℕ → Reply → Type 0
+abbrev pub Onward : ℕ → ℕ → Reply Refusal → Type 0
 Onward p n Ended = Unit {0}
 Onward p n (Stopped e) = Unit {0}
 Onward p n (Answered a next) = (p < next) × (next ≤ n)

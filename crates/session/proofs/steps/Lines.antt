@@ -29,14 +29,14 @@ use Rattle.session.specs.declared.command.Command.{Command}
 use Rattle.session.specs.declared.command.Command.TheVariants.{Ended as NoMore, Take, Report}
 use Rattle.session.specs.declared.steps.Reply.TheVariants.{NotReported, Reported}
 use Rattle.session.specs.steps.Effects.{not_begun, begun, open_book, start, still, perform, reported_by}
-use Rattle.session.specs.steps.Lines.{opening_line, answer_line, lines, book_refusal, start_refusal, outcome_line, command_lines}
+use Rattle.session.specs.steps.Lines.{opening_line_by, answer_line_by, lines_by, opening_line, answer_line, lines, book_refusal, start_refusal, outcome_line, command_lines}
 
 -- ---- AN OPENING.
 
 module _ (input area : List ℕ) where
   -- by the outcome of opening the book
   begun-line : (at : ℕ) (o : Outcome) → ToldOutcome o → opening_line (begun at o).answer ≡ o.refusal ∷ []
-  unfolding begun opening_line
+  unfolding begun opening_line_by
   begun-line at o told = go (eqb o.refusal 0) refl
     where
       go : (t : Bool) → eqb o.refusal 0 ≡ t → opening_line (cond t (Ok at) (Err (refusal_of o.refusal))) ≡ o.refusal ∷ []
@@ -44,7 +44,7 @@ module _ (input area : List ℕ) where
       go false e = ap (λ n. n ∷ []) (told e)
 
   book-line : (d : Result Number NumberError) → opening_line (open_book input area d).answer ≡ book_refusal input area d ∷ []
-  unfolding open_book book_refusal not_begun opening_line
+  unfolding open_book book_refusal not_begun opening_line_by
   book-line (Ok r) = go (leb r.value (length input - r.next))
     where
       book : List ℕ
@@ -58,7 +58,7 @@ module _ (input area : List ℕ) where
   book-line (Err Invalid) = refl
 
   pub start-line : opening_line (start input area).answer ≡ start_refusal input area ∷ []
-  unfolding start start_refusal not_begun opening_line
+  unfolding start start_refusal not_begun opening_line_by
   start-line = go (leb (length input) max_session)
     where
       go : (t : Bool) → let d = read_at max_groups max_number input 0 in
@@ -80,7 +80,7 @@ two_numbers (n ∷ ns) h = ap (λ xs. n ∷ xs) (one_number ns (omega arith))
 
 -- the line of a step that was taken or refused, by its outcome
 taken-line : (step : Step) (o : Outcome) → ToldOutcome o → answer_line (Ok (accepted_as step o.numbers)) ≡ 0 ∷ o.numbers → answer_line (answer_to step o) ≡ outcome_line o o.numbers
-unfolding answer_to answer_line outcome_line
+unfolding answer_to answer_line_by outcome_line
 taken-line step o told h = go (eqb o.refusal 0) refl
   where
     go : (t : Bool) → eqb o.refusal 0 ≡ t → answer_line (cond t (Ok (accepted_as step o.numbers)) (Err (refusal_of o.refusal))) ≡ cond t (0 ∷ o.numbers) (o.refusal ∷ [])
@@ -88,14 +88,14 @@ taken-line step o told h = go (eqb o.refusal 0) refl
     go false e = ap (λ n. n ∷ []) (told e)
 
 answer-line : (area : List ℕ) (step : Step) → let o = call_step office step area in answer_line (answer_to step o) ≡ outcome_line o o.numbers
-unfolding call_step accepted_as answer_line
+unfolding call_step accepted_as answer_line_by
 answer-line area (Add l r) =
     taken-line (Add l r) (call_add office area l r) (step_told area (Add l r)) (ap (λ ns. 0 ∷ ns) (one_number _ (demand_1.adding office area l r).0.as_many))
 answer-line area (Bind v t) =
     taken-line (Bind v t) (call_bind office area v t) (step_told area (Bind v t)) (ap (λ ns. 0 ∷ ns) (two_numbers _ (demand_1.fixing office area v t).0.as_many))
 
 pub command_lines_lem : (area out : List ℕ) (c : Result Command Refusal) → let s = perform area out c in lines s.answer s.output ≡ command_lines area out c
-unfolding perform still lines command_lines reported_by outcome_line
+unfolding perform still lines_by command_lines reported_by outcome_line
 command_lines_lem area out (Ok NoMore) = refl
 command_lines_lem area out (Err e) = refl
 command_lines_lem area out (Ok (Take step next)) = ap (λ x. x ∷ []) (answer-line area step)

@@ -16,7 +16,7 @@ use Rattle.session.specs.steps.Lines.{lines, command_lines}
 use Rattle.session.proofs.steps.Lines.{command_lines_lem}
 
 -- The answer, the area and the output are those of the step s.
-abbrev pub Takes : Reply → List ℕ → List ℕ → Effect → Type 0
+abbrev pub Takes : Reply Refusal → List ℕ → List ℕ → Effect → Type 0
 Takes r area out s = (r ≡ s.answer) × ((area ≡ s.area) × (out ≡ s.output))
 
 -- a report's answer, by the outcome of its call
@@ -45,7 +45,7 @@ module _ (input area out : List ℕ) (at : ℕ) where
   by_command e h = ap (perform area out) (sym e ∙ h)
 
   -- the lines of what it answers and leaves
-  pub lines_told : {r : Reply} {out' : List ℕ} → let s = step_at input area out at in
+  pub lines_told : {r : Reply Refusal} {out' : List ℕ} → let s = step_at input area out at in
       r ≡ s.answer → out' ≡ s.output → lines r out' ≡ command_lines area out (command_at input at)
   unfolding step_at
   lines_told e q = rw (e, q) (command_lines_lem area out (command_at input at))

@@ -42,10 +42,14 @@ longest_words = 91
 abbrev pub said_most : ℕ
 said_most = 15 + max_digits + 15 + max_digits + 2 + longest_words + 1
 
--- What is said of an opening, and of the command at a position: nothing where the session goes on, or is over with its input.
-unfoldable pub opening_said : List ℕ → Result ℕ Refusal → List ℕ
-opening_said input (Ok at) = []
-opening_said input (Err e) = said_line (opening_fault input) (number_of e)
+-- What is said of an opening, by the number of each refusal, and of the command at a position: nothing where the session goes on, or is over
+-- with its input.
+unfoldable pub opening_said_by : {E : Type 0} → (E → ℕ) → List ℕ → Result ℕ E → List ℕ
+opening_said_by of input (Ok at) = []
+opening_said_by of input (Err e) = said_line (opening_fault input) (of e)
+
+abbrev pub opening_said : List ℕ → Result ℕ Refusal → List ℕ
+opening_said = opening_said_by number_of
 
 unfoldable pub command_said : ℕ → Result Command Refusal → List ℕ
 command_said at (Ok c) = []

@@ -49,17 +49,17 @@ module _ (input area : List ℕ) where
 
 -- What a step leaves: its answer, the area and the output.
 pub record Effect : Type 0 where
-  pub answer : Reply
+  pub answer : Reply Refusal
   pub area : List ℕ
   pub output : List ℕ
 
 -- A report's answer by the outcome of its call: its length, or its refusal. In either case the session goes on.
-unfoldable pub reported_by : Outcome → ℕ → Reply
+unfoldable pub reported_by : Outcome → ℕ → Reply Refusal
 reported_by o next = cond (eqb o.refusal 0) (Reported (get_or o.numbers 0 0) next) (NotReported (refusal_of o.refusal) next)
 
 module _ (area out : List ℕ) where
   -- an answer that leaves area and output
-  unfoldable pub still : Reply → Effect
+  unfoldable pub still : Reply Refusal → Effect
   still answer = record { answer = answer; area = area; output = out }
 
   -- The step that was asked for.
@@ -74,7 +74,7 @@ unfoldable pub step_at : List ℕ → List ℕ → List ℕ → ℕ → Effect
 step_at input area out at = perform area out (command_at input at)
 
 -- The position at which the session goes on after an answer, and `over` where it is over.
-unfoldable pub next_or : ℕ → Reply → ℕ
+unfoldable pub next_or : ℕ → Reply Refusal → ℕ
 next_or over Ended = over
 next_or over (Stopped e) = over
 next_or over (Answered a next) = next

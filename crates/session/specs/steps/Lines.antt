@@ -20,25 +20,35 @@ use Rattle.session.specs.declared.command.Command.TheVariants.{Ended as NoMore, 
 use Rattle.session.specs.declared.steps.Reply.{Reply}
 use Rattle.session.specs.declared.steps.Reply.TheVariants.{Ended, Stopped, Answered, NotReported, Reported}
 
--- ---- FOR EVERY CASE: 0 and the answer's numbers, or the refusal alone.
+-- ---- FOR EVERY CASE: 0 and the answer's numbers, or the refusal alone, by the number of each refusal.
+module _ {E : Type 0} (of : E → ℕ) where
+  -- Opening answers no numbers.
+  unfoldable pub opening_line_by : Result ℕ E → List ℕ
+  opening_line_by (Ok at) = 0 ∷ []
+  opening_line_by (Err e) = of e ∷ []
 
--- Opening answers no numbers.
-unfoldable pub opening_line : Result ℕ Refusal → List ℕ
-opening_line (Ok at) = 0 ∷ []
-opening_line (Err e) = number_of e ∷ []
+  unfoldable pub answer_line_by : Result Accepted E → List ℕ
+  answer_line_by (Ok (Added i)) = 0 ∷ i ∷ []
+  answer_line_by (Ok (Bound m n)) = 0 ∷ m ∷ n ∷ []
+  answer_line_by (Err e) = of e ∷ []
 
-unfoldable pub answer_line : Result Accepted Refusal → List ℕ
-answer_line (Ok (Added i)) = 0 ∷ i ∷ []
-answer_line (Ok (Bound m n)) = 0 ∷ m ∷ n ∷ []
-answer_line (Err e) = number_of e ∷ []
+  -- A step prints one line, but for the end of the input. A report's numbers are those that it wrote into the output.
+  unfoldable pub lines_by : Reply E → List ℕ → Printed
+  lines_by Ended out = []
+  lines_by (Stopped e) out = (of e ∷ []) ∷ []
+  lines_by (Answered a next) out = answer_line_by a ∷ []
+  lines_by (NotReported e next) out = (of e ∷ []) ∷ []
+  lines_by (Reported n next) out = (0 ∷ numbers_in (take n out)) ∷ []
 
--- A step prints one line, but for the end of the input. A report's numbers are those that it wrote into the output.
-unfoldable pub lines : Reply → List ℕ → Printed
-lines Ended out = []
-lines (Stopped e) out = (number_of e ∷ []) ∷ []
-lines (Answered a next) out = answer_line a ∷ []
-lines (NotReported e next) out = (number_of e ∷ []) ∷ []
-lines (Reported n next) out = (0 ∷ numbers_in (take n out)) ∷ []
+-- So for what a session answers.
+abbrev pub opening_line : Result ℕ Refusal → List ℕ
+opening_line = opening_line_by number_of
+
+abbrev pub answer_line : Result Accepted Refusal → List ℕ
+answer_line = answer_line_by number_of
+
+abbrev pub lines : Reply Refusal → List ℕ → Printed
+lines = lines_by number_of
 
 -- ---- WHAT THEY ARE TO BE.
 

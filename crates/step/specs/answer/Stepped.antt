@@ -46,7 +46,7 @@ abbrev pub answer_of : Result Stepped Refusal → Result Accepted Refusal
 answer_of (Ok s) = Ok s.accepted
 answer_of (Err e) = Err e
 
-abbrev pub header_after : Header → Result Stepped Refusal → Header
+abbrev pub header_after : {E : Type 0} → Header → Result Stepped E → Header
 header_after h (Ok s) = record { capacity = h.capacity; terms = h.terms; entries = s.entries; lines = s.lines }
 header_after h (Err e) = h
 

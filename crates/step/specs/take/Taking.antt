@@ -1,6 +1,6 @@
 -- A step on a loaded state, whichever it is, and the bytes that it leaves (document 01, "Add a line", "Fix a choice", "Turned
 -- down"). Assumes nothing: these are definitions.
-use Rattle.std.specs.Prelude.{List, cond, ℕ, eqb, Result}
+use Rattle.std.specs.Prelude.{List, cond, ℕ, eqb, Result, Ok, Err}
 use Rattle.model.specs.Limits.{Limits}
 use Rattle.model.specs.Lists.{concat_map}
 use Rattle.model.specs.Step.{State, Answer, add_line, bind}
@@ -9,7 +9,6 @@ use Rattle.model.specs.Call.{over}
 use Rattle.layout.specs.limits.Rows.{Loaded, loaded_words}
 use Rattle.layout.specs.header.Held.{held}
 use Rattle.area.specs.declared.load.Held.{Held}
-use Rattle.refusal.specs.declared.Refusal.{Refusal}
 use Rattle.step.specs.declared.answer.Step.{Step}
 use Rattle.step.specs.declared.answer.Step.TheVariants.{Add, Bind}
 use Rattle.step.specs.declared.answer.Stepped.{Stepped}
@@ -21,9 +20,14 @@ step_of lim (Add l r) s = add_line lim s l r
 step_of lim (Bind v t) s = bind s v t
 
 -- The state after a step: what these slices hold, with the header after the step in place of theirs.
-abbrev pub state_after : Result Stepped Refusal → Held → Loaded
+abbrev pub state_after : {E : Type 0} → Result Stepped E → Held → Loaded
 state_after s w = held (header_after w.header s) w.rows.now w.bindings.now w.lines.now w.entries.now
 
 -- An area after a step: with the words that it leaves, or as it was where it is refused.
 unfoldable pub stored_bytes : ℕ → Loaded → List ℕ → List ℕ
 stored_bytes refusal w area = cond (eqb refusal 0) (over (concat_map (to_bytes word_size) (loaded_words w)) area) area
+
+-- So by the answer itself, whatever tells its refusal.
+unfoldable pub kept_bytes : {E : Type 0} → Result Stepped E → Loaded → List ℕ → List ℕ
+kept_bytes (Ok s) w area = stored_bytes 0 w area
+kept_bytes (Err e) w area = area

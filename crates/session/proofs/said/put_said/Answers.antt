@@ -1,6 +1,5 @@
 -- `said::put_said` meets its contract: each part has room, and stands behind those before it (proofs/said/Saying.antt). Assumes nothing.
 use Rattle.std.proofs.Common.{rules, refl, arith}
-use Rattle.refusal.specs.Numbers.{number_of}
 use Rattle.session.specs.said.Said.{ascii}
 use Rattle.session.proofs.text.Digits.{decimal_short}
 use Rattle.session.proofs.said.Saying.{words_short, said_front}
@@ -13,22 +12,21 @@ pub put_decimal-requires-2 : goal.put_decimal-requires-2
 put_decimal-requires-2 c = omega (arith, decimal_short c.args.position (omega arith))
 
 pub put_bytes-requires-3 : goal.put_bytes-requires-3
-put_bytes-requires-3 c = omega (arith, decimal_short c.args.position (omega arith), decimal_short c.from.result (omega arith))
+put_bytes-requires-3 c = omega (arith, decimal_short c.args.position (omega arith), decimal_short c.args.refusal (omega arith))
 
 pub put_bytes-requires-4 : goal.put_bytes-requires-4
 put_bytes-requires-4 c =
     rw c.words.ensures
-    (omega (arith, decimal_short c.args.position (omega arith), decimal_short c.from.result (omega arith), words_short (number_of c.args.refusal)))
+    (omega (arith, decimal_short c.args.position (omega arith), decimal_short c.args.refusal (omega arith), words_short c.args.refusal))
 
 pub end_line-requires : goal.end_line-requires
 end_line-requires c =
     let put = rw c.words.ensures at c.put_bytes-4.ensures in
-    omega (arith, decimal_short c.args.position (omega arith), decimal_short c.from.result (omega arith), words_short (number_of c.args.refusal))
+    omega (arith, decimal_short c.args.position (omega arith), decimal_short c.args.refusal (omega arith), words_short c.args.refusal)
 
 pub returns : goal.returns
 unfolding ascii
 returns c =
-    let number = rw c.from.ensures at c.put_decimal-2.ensures in
     let words = rw c.words.ensures at c.put_bytes-4.ensures in
-    let said = said_front c.args.position (number_of c.args.refusal) (omega arith) (omega (arith, c.from.ensures)) refl c.requires c.put_bytes.ensures c.put_decimal.ensures c.put_bytes-2.ensures number c.put_bytes-3.ensures words c.end_line.ensures in
+    let said = said_front c.args.position c.args.refusal (omega arith) (omega arith) refl c.requires c.put_bytes.ensures c.put_decimal.ensures c.put_bytes-2.ensures c.put_decimal-2.ensures c.put_bytes-3.ensures words c.end_line.ensures in
     record { count = said.0; bytes = search (rules, said.1) }

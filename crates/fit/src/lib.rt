@@ -142,9 +142,7 @@ pub extern "C" fn fit_entry(
     ensures refusal { result ≡ (call_entry office area.now i).refusal }
     ensures fields { fields.new ≡ (call_entry office area.now i).numbers }
 {
-    let answer = office::entry::entry(area, i);
-    *fields = office::entry::fields(answer);
-    refusal::number(answer)
+    refusal::number(office::entry::read_into(area, i, fields))
 }
 
 // Writes the book of an area: 7 for an area that is not sound, then 13 where `out` is too short. `written` is the number of bytes

@@ -35,3 +35,14 @@ pub fn fields(answer: Result<Entry, Refusal>) -> [u32; ENTRY_WORDS]
         Err(_) => [0; ENTRY_WORDS],
     }
 }
+
+// Reads an entry, and puts its numbers into `fields`: zeros on a refusal.
+pub fn read_into(area: &[u8], i: u32, fields: &mut [u32; ENTRY_WORDS]) -> Result<(), Refusal>
+    ensures refusal { number result ≡ (call_entry office area.now i).refusal }
+    ensures fields { fields.new ≡ (call_entry office area.now i).numbers }
+{
+    let answer = entry(area, i);
+    *fields = crate::entry::fields(answer);
+    answer?;
+    Ok(())
+}

@@ -93,6 +93,20 @@ module _ (limit k : ℕ) (bytes : List ℕ) where
       go (parsed m l) q = test m l (ltb m limit) refl (rw q at e)
       go (unparsed m) q = let d : unparsed m ≡ parsed n rest = rw q at e in let z : ◌≡◌ {A = ℕ} 0 1 = cc in absurd (omega arith)
 
+  -- and a refusal is not 0
+  pub below_positive : (m : ℕ) → 0 < k → parse_below limit k bytes ≡ unparsed m → 0 < m
+  unfolding parse_below parse_number from_read and_then need
+  below_positive m l = go (read max_groups max_number bytes)
+    where
+      test : (n : ℕ) (rest : List ℕ) (b : Bool) → need b k (parsed n rest) ≡ unparsed m → 0 < m
+      test n rest true d = let z : ◌≡◌ {A = ℕ} 0 1 = cc in absurd (omega arith)
+      test n rest false d = let same : k ≡ m = cc in omega (arith, l)
+
+      go : (r : Read) → and_then (from_read r) (λ n rest. need (ltb n limit) k (parsed n rest)) ≡ unparsed m → 0 < m
+      go (number n rest) d = test n rest (ltb n limit) d
+      go cut d = let same : ◌≡◌ {A = ℕ} 1 m = cc in omega arith
+      go invalid d = let same : ◌≡◌ {A = ℕ} 2 m = cc in omega arith
+
   -- a number that is needed to be below the limit, and what follows it
   pub below_then : {A : Type 0} (f : ℕ → List ℕ → Parsed A)
       → and_then (parse_number bytes) (λ n rest. need (ltb n limit) k (f n rest)) ≡ and_then (parse_below limit k bytes) f

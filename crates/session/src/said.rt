@@ -30,18 +30,19 @@ fn words(refusal: u32) -> &'static [u8]
 }
 
 // Writes the line of a position and a refusal to the front of `line`, and gives its length.
-fn put_said(line: &mut [u8], position: u32, refusal: u32) -> usize
+fn put_said<E: Numbered>(line: &mut [u8], position: u32, refusal: E) -> usize
     requires { said_most ≤ length line.old }
-    ensures count { result ≡ length (said_line position refusal) }
-    ensures bytes { line.new ≡ said_line position refusal ++ drop result line.old }
+    ensures count { result ≡ length (said_line position (E.its_number refusal)) }
+    ensures bytes { line.new ≡ said_line position (E.its_number refusal) ++ drop result line.old }
 {
+    let number = refusal.number();
     let mut said = Writer { text: line, at: 0 };
     said.put_bytes(b"sessions: byte ");
     said.put_decimal(position);
     said.put_bytes(b": refused with ");
-    said.put_decimal(refusal);
+    said.put_decimal(number);
     said.put_bytes(b": ");
-    said.put_bytes(words(refusal));
+    said.put_bytes(words(number));
     said.end_line();
     said.at
 }
@@ -54,11 +55,7 @@ pub fn of_opening<E: Numbered>(input: &[u8], begun: Result<usize, E>, line: &mut
     ensures bytes { line.new ≡ opening_said_by E.its_number input.now begun ++ drop result line.old }
 {
     match begun {
-        Err(refusal) => put_said(
-            line,
-            crate::fault::opening_fault(input) as u32,
-            refusal.number(),
-        ),
+        Err(refusal) => put_said(line, crate::fault::opening_fault(input) as u32, refusal),
         Ok(_) => 0,
     }
 }
@@ -71,7 +68,7 @@ pub fn of_command(input: &[u8], at: usize, line: &mut [u8]) -> usize
     ensures bytes { line.new ≡ command_said at (command_at input.now at) ++ drop result line.old }
 {
     match crate::command::command_at(input, at) {
-        Err(refusal) => put_said(line, at as u32, refusal.number()),
+        Err(refusal) => put_said(line, at as u32, refusal),
         Ok(_) => 0,
     }
 }

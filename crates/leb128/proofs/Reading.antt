@@ -1,11 +1,11 @@
 -- What the reader's answer is at each of its returns, from what was tested on the way there. Assumes nothing.
-use mathlib.Core.Path.{◌≡◌}
+use mathlib.Core.Path.{◌≡◌, refl, sym}
 use mathlib.Core.List.{List}
 use Prim.Native.Nat.{ℕ, ◌+◌, ◌*◌, ◌-◌, ◌%◌, ◌≤◌, ◌<◌}
 use native.Mathlib.Omega.{arith}
 use lib.ListN.{length, get_or, drop}
-use Rattle.leb128.specs.Number.{number, prepend, read_groups, at_most, read, max_groups, max_number}
-use Rattle.leb128.specs.Answer.{number_before, placed, read_at}
+use Rattle.leb128.specs.Number.{Read, number, cut, invalid, prepend, read_groups, at_most, read, max_groups, max_number}
+use Rattle.leb128.specs.Answer.{number_before, placed, read_at, number_of, numbers, read_numbers, numbers_at}
 use Rattle.std.specs.Prelude.{Result, Err}
 use Rattle.leb128.specs.declared.Number.{Number}
 use Rattle.leb128.specs.declared.NumberError.{NumberError}
@@ -52,6 +52,16 @@ module _ (s : List ℕ) (i x y : ℕ) where
         → third s i x y ≡ number_before (x + 128 * y + 16384 * get_or s i 0) (i + 1)
     third_number e m = rw (third_sum e (omega arith), within max_number _ (drop (i + 1) s) m) (placed-next s i _ h)
 
+-- the answer tells its numbers
+pub numbers_told : (s : List ℕ) (i : ℕ) → numbers (read_at max_groups max_number s i) ≡ numbers_at max_groups max_number s i
+unfolding read_at numbers_at placed numbers read_numbers number_of
+numbers_told s i = go (read max_groups max_number (drop i s))
+  where
+    go : (x : Read) → numbers (placed (length s) x) ≡ read_numbers (length s) x
+    go (number n rest) = refl
+    go cut = refl
+    go invalid = refl
+
 -- the seven low bits of a byte with 80 set
 low_bits : (x : ℕ) → 128 ≤ x → x < 256 → x - 128 ≡ x % 128
 low_bits x h b = omega arith
@@ -72,6 +82,10 @@ module _ (s : List ℕ) (i : ℕ) where
     pub second_cut : length s ≤ i + 1 → read_at max_groups max_number s i ≡ Err Cut
     unfolding read_at read placed at_most prepend
     second_cut e = rw (group_more 2 s i h b, group_cut 1 s (i + 1) e)
+
+    -- and that is what the answer tells
+    pub second_cut_told : length s ≤ i + 1 → numbers (Err Cut) ≡ numbers_at max_groups max_number s i
+    second_cut_told e = rw (sym (second_cut e)) (numbers_told s i)
 
     module _ (g : i + 1 < length s) where
       -- a second byte 0 is no shortest form

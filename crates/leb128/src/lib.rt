@@ -52,6 +52,7 @@ fn read_third(s: &[u8], at: usize, x: u32, y: u32) -> Result<Number, NumberError
 }
 
 // Reads the number at position `at`, which may be any.
+#[tactic(auto, using(crate::proofs::Reading::second_cut, crate::proofs::Reading::second_cut_told))]
 pub fn read(s: &[u8], at: usize) -> Result<Number, NumberError>
     ensures answer { result ≡ read_at max_groups max_number s.now at }
     ensures numbers { numbers result ≡ numbers_at max_groups max_number s.now at }

@@ -66,8 +66,8 @@ impl From<Refusal> for u32 {
     }
 }
 
-// What is told by a number: a `Refusal`, and any number, by itself. What prints a refusal or says it takes either; what refuses gives a
-// `Refusal`. A trait of its own: `From` says by a relation what it gives, and definitions go by the number.
+// What is told by a number: a `Refusal`, and any number, by itself. What prints a refusal, says it or stores by it takes either; what refuses
+// gives a `Refusal`. A trait of its own: `From` says by a relation what it gives, and definitions go by the number.
 pub trait Numbered: Copy {
     ghost its_number: { Self → ℕ };
 

@@ -11,7 +11,6 @@ use Rattle.area.specs.load.Ready.{ReadFrom}
 use Rattle.area.proofs.load.Uses.{sound_header}
 use Rattle.calls.specs.Called.{call_step, Called}
 use Rattle.step.specs.answer.Stepped.{answer_of}
-use Rattle.step.proofs.take.Answers.{asked_by_number, kept_by_number}
 use Rattle.calls.proofs.Outcomes.{answer-sized, called_seven, called, stored_fits}
 use Rattle.calls.proofs.Loading.{front_fits, front_read}
 use Rattle.calls.proofs.call_step.Goals as goal
@@ -48,14 +47,14 @@ keep-requires-clause-fits c =
     stored_fits _ _ _ (is-sound at.Else-not-sound) (is_read at.After-load_header-header).is_state
 
 pub keep-requires-clause-sized : goal.keep-requires-clause-sized
-keep-requires-clause-sized c = asked_by_number _ (answer-sized _ _ _ _ _ c.take-s.ensures.gives)
+keep-requires-clause-sized c = answer-sized _ _ _ _ _ c.take-s.ensures.gives
 
 -- what is kept is what the call leaves
 kept : (c : After-keep) → sound (limits_of c.args.lim) c.args.area.now ≡ true
     → ReadFrom (limits_of c.args.lim) c.args.area.now (held c.load_header-header.result c.sound.new.rows c.sound.new.bindings c.sound.new.lines (take (entry_row_words * c.load_header-header.result.capacity) c.sound.new.entries))
     c.sound.new.list c.sound.new.roots c.sound.new.names
     → Called (call_step (limits_of c.args.lim) c.args.step c.args.area.now) c.args.step (answer_of c.take-s.result) c.keep.new.area
-kept c t read = called _ _ _ _ _ t read.is_state c.take-s.result c.take-s.ensures.gives (c.keep.ensures ∙ kept_by_number c.take-s.result _ _)
+kept c t read = called _ _ _ _ _ t read.is_state c.take-s.result c.take-s.ensures.gives c.keep.ensures
 
 pub returns-in_err-s-clause-called : goal.returns-in_err-s-clause-called
 returns-in_err-s-clause-called c =

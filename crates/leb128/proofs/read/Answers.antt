@@ -1,24 +1,18 @@
 -- `read` meets its contract: at each return the tests say what stands at the position. A byte is below 256, so
--- that its seven low bits are what it is above 128. Assumes nothing.
-use Rattle.std.proofs.Common.{arith, ◌≡◌, refl, sym, ap, ◌∙◌, ℕ, List, length, drop, Result}
+-- that its seven low bits are what it is above 128. An end behind the first byte the check finds by itself, by `second_cut`. Assumes nothing.
+use Rattle.std.proofs.Common.{arith, ◌≡◌, sym, ap, ◌∙◌, ℕ, List, Result}
 use Rattle.std.proofs.lemmas.Result.{err_from_is_err_and}
-use Rattle.leb128.specs.Number.{max_groups, max_number, Read, number, cut, invalid, read}
-use Rattle.leb128.specs.Answer.{placed, read_at, number_of, numbers, read_numbers, numbers_at}
+use Rattle.leb128.specs.Number.{max_groups, max_number}
+use Rattle.leb128.specs.Answer.{read_at, numbers, numbers_at}
 use Rattle.leb128.specs.declared.Number.{Number}
 use Rattle.leb128.specs.declared.NumberError.{NumberError}
-use Rattle.leb128.proofs.Reading.{first-cut, first-number, second_cut, second_zero, second_number, to_third}
+use Rattle.leb128.proofs.Reading.{numbers_told, first-cut, first-number, second_zero, second_number, to_third}
 use Rattle.leb128.proofs.read.Goals as goal
 
 -- the answer tells its numbers
 told : (bytes : List ℕ) (at : ℕ) (r : Result Number NumberError) → r ≡ read_at max_groups max_number bytes at
     → record { answer : r ≡ read_at max_groups max_number bytes at; numbers : numbers r ≡ numbers_at max_groups max_number bytes at }
-unfolding read_at numbers_at placed numbers read_numbers number_of
-told bytes at r e = record { answer = e; numbers = ap numbers e ∙ go (read max_groups max_number (drop at bytes)) }
-  where
-    go : (x : Read) → numbers (placed (length bytes) x) ≡ read_numbers (length bytes) x
-    go (number n rest) = refl
-    go cut = refl
-    go invalid = refl
+told bytes at r e = record { answer = e; numbers = ap numbers e ∙ numbers_told bytes at }
 
 pub returns-in_err-x : goal.returns-in_err-x
 returns-in_err-x c =
@@ -31,13 +25,6 @@ returns-then-x-lt128 c =
     let a = c.args in
     let is = c.in_ok-x.ensures in
     told a.s.now a.at _ (rw is.1 (sym (first-number a.s.now a.at is.0 (omega (arith, is)))))
-
-pub returns-in_err-y : goal.returns-in_err-y
-returns-in_err-y c =
-    let a = c.args in
-    let first = c.in_ok-x.ensures in
-    let p = err_from_is_err_and c.from_residual-in_err-y.result c.from_residual-in_err-y.ensures.1 in
-    told a.s.now a.at _ (rw (p.1, p.2, c.in_err-y.ensures.1) (sym (second_cut a.s.now a.at first.0 (omega (arith, first)) c.in_err-y.ensures.0)))
 
 pub returns-then-y-eq0 : goal.returns-then-y-eq0
 returns-then-y-eq0 c =

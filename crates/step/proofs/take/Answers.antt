@@ -1,5 +1,5 @@
 -- What a step asks and gives, whichever it is. Assumes nothing.
-use Rattle.std.proofs.Common.{◌≡◌, refl, List, ℕ, arith, Result, Ok, Err, IfOk, ne_eqb}
+use Rattle.std.proofs.Common.{◌≡◌, List, ℕ, arith, Result}
 use Rattle.model.specs.Limits.{Limits}
 use Rattle.model.specs.Step.{State, add_line, bind}
 use Rattle.layout.specs.limits.Rows.{Loaded, loaded_state}
@@ -7,15 +7,12 @@ use Rattle.pairs.specs.Index.{Room}
 use Rattle.area.specs.load.Ready.{Lent, Ready}
 use Rattle.area.proofs.load.Uses.{ready_facts}
 use Rattle.refusal.specs.declared.Refusal.{Refusal}
-use Rattle.refusal.specs.Numbers.{number_of, number}
-use Rattle.refusal.proofs.Numbers.{none_is_zero}
 use Rattle.step.specs.declared.answer.Step.{Step}
 use Rattle.step.specs.declared.answer.Step.TheVariants.{Add, Bind}
 use Rattle.step.specs.declared.answer.Accepted.{Accepted}
-use Rattle.step.specs.declared.answer.Stepped.{Stepped}
 use Rattle.step.specs.answer.Stepped.{Gives}
 use Rattle.pairs.proofs.Rooms.{room_fewer}
-use Rattle.step.specs.take.Taking.{step_of, stored_bytes, kept_bytes}
+use Rattle.step.specs.take.Taking.{step_of}
 
 -- room for every state is room for the entries of this one
 pub ready-room : {lim : Limits} {w : Loaded} {list roots names list' roots' names' lefts rights cells : List ℕ} → Ready lim w list roots names
@@ -32,13 +29,3 @@ module _ (lim : Limits) (state : State) (a : Result Accepted Refusal) (w : Loade
   pub gives_choice : {v t : ℕ} → step ≡ Bind v t → Gives lim (Bind v t) (bind state v t) a w → Gives lim step (step_of lim step state) a w
   unfolding step_of
   gives_choice e g = rw e g
-
--- What is asked and kept by the answer is so by its number too, where a `Refusal` tells the refusal: none has 0.
-pub asked_by_number : {A : Type 0} (s : Result Stepped Refusal) → (number s ≡ 0 → A) → IfOk s (λ _. A)
-asked_by_number (Ok s) h = h refl
-asked_by_number (Err e) h = tt
-
-pub kept_by_number : (s : Result Stepped Refusal) (w : Loaded) (area : List ℕ) → kept_bytes s w area ≡ stored_bytes (number s) w area
-unfolding kept_bytes stored_bytes
-kept_by_number (Ok s) w area = refl
-kept_by_number (Err e) w area = rw (ne_eqb (number_of e) 0 (none_is_zero e))

@@ -1,6 +1,6 @@
 -- A step on a loaded state, whichever it is, and the bytes that it leaves (document 01, "Add a line", "Fix a choice", "Turned
 -- down"). Assumes nothing: these are definitions.
-use Rattle.std.specs.Prelude.{List, cond, ℕ, eqb, Result, Ok, Err}
+use Rattle.std.specs.Prelude.{List, cond, ℕ, eqb, Result}
 use Rattle.model.specs.Limits.{Limits}
 use Rattle.model.specs.Lists.{concat_map}
 use Rattle.model.specs.Step.{State, Answer, add_line, bind}
@@ -26,8 +26,3 @@ state_after s w = held (header_after w.header s) w.rows.now w.bindings.now w.lin
 -- An area after a step: with the words that it leaves, or as it was where it is refused.
 unfoldable pub stored_bytes : ℕ → Loaded → List ℕ → List ℕ
 stored_bytes refusal w area = cond (eqb refusal 0) (over (concat_map (to_bytes word_size) (loaded_words w)) area) area
-
--- So by the answer itself, whatever tells its refusal.
-unfoldable pub kept_bytes : {E : Type 0} → Result Stepped E → Loaded → List ℕ → List ℕ
-kept_bytes (Ok s) w area = stored_bytes 0 w area
-kept_bytes (Err e) w area = area

@@ -1,5 +1,6 @@
 -- `read` meets its contract: at each return the tests say what stands at the position. A byte is below 256, so
--- that its seven low bits are what it is above 128. An end behind the first byte the check finds by itself, by `second_cut`. Assumes nothing.
+-- that its seven low bits are what it is above 128. An end behind the first byte the check finds by itself, by `second_cut` and
+-- `second_cut_told`. Assumes nothing.
 use Rattle.std.proofs.Common.{arith, ◌≡◌, sym, ap, ◌∙◌, ℕ, List, Result}
 use Rattle.std.proofs.lemmas.Result.{err_from_is_err_and}
 use Rattle.leb128.specs.Number.{max_groups, max_number}
